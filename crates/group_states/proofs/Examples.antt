@@ -6,8 +6,7 @@ use Rattle.semantics.specs.Groups.{Row, value_at}
 use Rattle.semantics.specs.Values.{Datum, boolean, whole, text, null, is_null}
 use Rattle.semantics.specs.declared.function.ColumnFunction.{ColumnFunction}
 use Rattle.semantics.specs.declared.function.ColumnFunction.TheVariants as function
-use Rattle.group_states.specs.States.{EntryForm, FunctionState, rows, counted, summed, extreme, collected}
-use Rattle.group_states.specs.Entries.{entries_over}
+use Rattle.semantics.specs.GroupStates.{EntryForm, FunctionState, rows, counted, summed, extreme, collected, entries_over}
 
 -- Some sales: a shop, an amount, and whether a member bought.
 abbrev sales : List Row

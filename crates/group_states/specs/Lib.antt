@@ -1,2 +1,1 @@
 pub mod States
-pub mod Entries

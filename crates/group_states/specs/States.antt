@@ -7,23 +7,6 @@ use Rattle.group_states.specs.declared.entry.GroupEntry.{GroupEntry}
 use Rattle.group_states.specs.declared.entry.State.{State}
 use Rattle.group_states.specs.declared.entry.State.TheVariants as state
 
--- The state of a set function over the members of a group: nothing where it is their number, a count, a
--- sum and how many numbers were added, the least or the greatest value, or the different values.
-pub data FunctionState : Type 0 where
-  rows : FunctionState
-  counted : ℕ → FunctionState
-  summed : ℤ → ℕ → FunctionState
-  extreme : Datum → FunctionState
-  collected : List Datum → FunctionState
-
--- A group: its key, how many members it has, and the state of each set function over them.
-pub record EntryForm : Type 0 where
-  pub key : Key
-  pub members : ℕ
-  pub states : List FunctionState
-
--- ---- in the code
-
 -- The state that a value of the code is.
 abbrev pub state_of : State → FunctionState
 state_of state.Rows = rows

@@ -7,13 +7,13 @@ use Rattle.semantics.specs.Groups.{Key, key_order}
 use Rattle.semantics.specs.Records.{max_line_len}
 use Rattle.semantics.specs.Values.{Datum, whole, is_null, value_order}
 use Rattle.semantics.specs.declared.kind.Kind.{Kind}
-use Rattle.group_states.specs.States.{EntryForm, FunctionState, rows, counted, summed, extreme, collected}
+use Rattle.semantics.specs.GroupStates.{EntryForm, FunctionState, rows, counted, summed, extreme, collected}
 use Rattle.part_text.specs.Reading.{line_value}
-use Rattle.part_text.specs.Texts.{value_text}
+use Rattle.semantics.specs.Parts.{value_text, count_values, group_values, groups_values, state_values}
 use Rattle.part_groups.specs.declared.fault.GroupFaultKind.TheVariants.{OutOfOrder, OutOfRange, UnexpectedValue}
 use Rattle.part_groups.specs.declared.shape.StateKind.{StateKind}
 use Rattle.part_groups.specs.declared.shape.StateKind.TheVariants as kind
-use Rattle.part_groups.specs.Groups.{HasKind, HasShape, HaveShape, ShapeForm, count_values, group_values, groups_values, state_values}
+use Rattle.part_groups.specs.Groups.{HasKind, HasShape, HaveShape, ShapeForm}
 use Rattle.part_groups.specs.Known.{AreReadAgain, AreReadAs}
 use Rattle.part_groups.specs.Reading.{◌>>=◌, Before, Stream, after, ascending_at, collected_at, count_at, count_within, counted_at, different_at, each_at, extreme_at, fault_at, first_line, group_at, groups_at, held_at, is_above, is_held, is_sum_of, key_at, next_key_at, number_at, passed, reading_of, state_at, summed_at, value_at, value_or_fault}
 use Rattle.part_groups.proofs.ReadAs.{IsRead, ReadsBack, and_more, and_no_more, each-again, in_turn-again, nothing-read, then_passed}

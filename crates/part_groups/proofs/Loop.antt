@@ -4,7 +4,7 @@ use Rattle.part_groups.specs.declared.fault.GroupFault.{GroupFault}
 use Rattle.part_groups.specs.declared.fault.GroupRefusal.{GroupRefusal}
 use Rattle.part_groups.specs.declared.fault.GroupRefusal.TheVariants as refusal
 use Rattle.semantics.specs.Groups.{Key}
-use Rattle.group_states.specs.States.{EntryForm}
+use Rattle.semantics.specs.GroupStates.{EntryForm}
 use Rattle.part_groups.specs.Groups.{ShapeForm}
 use Rattle.part_groups.specs.Reading.{◌>>=◌, Refuses, Stream, after, each_at, group_at, groups_at, in_turn}
 

@@ -13,15 +13,16 @@ use Rattle.semantics.specs.Records.{Holds, is_int64, max_line_len}
 use Rattle.semantics.specs.Values.{Datum, boolean, whole, text, null, is_null, value_order}
 use Rattle.semantics.specs.declared.kind.Kind.{Kind}
 use Rattle.semantics.specs.declared.kind.Kind.TheVariants as type
-use Rattle.group_states.specs.States.{EntryForm, FunctionState, rows, counted, summed, extreme, collected}
+use Rattle.semantics.specs.GroupStates.{EntryForm, FunctionState, rows, counted, summed, extreme, collected}
 use Rattle.part_text.specs.Reading.{line_value}
-use Rattle.part_text.specs.Texts.{is_storable, value_text}
+use Rattle.part_text.specs.Texts.{is_storable}
+use Rattle.semantics.specs.Parts.{value_text, count_values, group_values, state_values}
 use Rattle.part_groups.specs.declared.fault.GroupFault.{GroupFault}
 use Rattle.part_groups.specs.declared.fault.GroupFaultKind.{GroupFaultKind}
 use Rattle.part_groups.specs.declared.fault.GroupFaultKind.TheVariants.{OutOfOrder, OutOfRange, UnexpectedValue}
 use Rattle.part_groups.specs.declared.shape.StateKind.{StateKind}
 use Rattle.part_groups.specs.declared.shape.StateKind.TheVariants as kind
-use Rattle.part_groups.specs.Groups.{ShapeForm, count_values, group_values, state_values}
+use Rattle.part_groups.specs.Groups.{ShapeForm}
 use Rattle.part_groups.specs.Known.{AreDifferentOf, AreGroupsFor, AreRead, AreStatesFor, HaveValues, IsWritable, IsAbove, IsDifferentOf, IsGroupFor, IsKeyFor, IsStateFor, IsSumOf}
 use Rattle.part_groups.specs.Reading.{◌>>=◌, Before, Stream, after, ascending_at, behind, collected_at, count_at, count_within, counted_at, different_at, each_at, extreme_at, fault_at, first_line, group_at, held_at, in_turn, is_above, is_held, is_sum_of, key_at, next_key_at, number_at, passed, reading_of, state_at, summed_at, value_at, value_or_fault}
 use Rattle.part_groups.proofs.Again.{itself, itself-all}

@@ -3,34 +3,10 @@ use Rattle.std.specs.List.{AllByRecursion, AllZip, flat_map}
 use Rattle.std.specs.Prelude.{◌≡◌, ⊤, ℕ, pos, List, [], ◌∷◌, ◌++◌, length}
 use Rattle.semantics.specs.Values.{Datum, whole}
 use Rattle.semantics.specs.declared.kind.Kind.{Kind}
-use Rattle.group_states.specs.States.{EntryForm, FunctionState, rows, counted, summed, extreme, collected}
+use Rattle.semantics.specs.GroupStates.{EntryForm, FunctionState, rows, counted, summed, extreme, collected}
 use Rattle.part_groups.specs.declared.shape.GroupShape.{GroupShape}
 use Rattle.part_groups.specs.declared.shape.StateKind.{StateKind}
 use Rattle.part_groups.specs.declared.shape.StateKind.TheVariants as kind
-
--- ---- as values
-
--- A count is a whole number.
-abbrev pub count_values : ℕ → List Datum
-count_values n = whole (pos n) ∷ []
-
--- Of different values their number comes first.
-abbrev pub state_values : FunctionState → List Datum
-state_values rows = []
-state_values (counted n) = count_values n
-state_values (summed s n) = whole s ∷ count_values n
-state_values (extreme d) = d ∷ []
-state_values (collected ds) = whole (pos (length ds)) ∷ ds
-
--- A group is its key, the number of its members and the states.
-abbrev pub group_values : EntryForm → List Datum
-group_values g = g.key ++ whole (pos g.members) ∷ flat_map state_values g.states
-
--- Groups, one behind the other.
-abbrev pub groups_values : List EntryForm → List Datum
-groups_values gs = flat_map group_values gs
-
--- ---- the shape of groups
 
 -- What a query asks of its groups: of which type each grouping column is, and which state each set
 -- function has.

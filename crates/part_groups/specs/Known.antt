@@ -7,11 +7,12 @@ use Rattle.semantics.specs.Groups.{Key, key_order}
 use Rattle.semantics.specs.Records.{Holds, max_line_len}
 use Rattle.semantics.specs.Values.{Datum, null, value_order}
 use Rattle.semantics.specs.declared.kind.Kind.{Kind}
-use Rattle.group_states.specs.States.{EntryForm, FunctionState, rows, counted, summed, extreme, collected}
-use Rattle.part_text.specs.Texts.{is_storable, value_text}
+use Rattle.semantics.specs.GroupStates.{EntryForm, FunctionState, rows, counted, summed, extreme, collected}
+use Rattle.part_text.specs.Texts.{is_storable}
+use Rattle.semantics.specs.Parts.{value_text, groups_values}
 use Rattle.part_groups.specs.declared.shape.StateKind.{StateKind}
 use Rattle.part_groups.specs.declared.shape.StateKind.TheVariants as kind
-use Rattle.part_groups.specs.Groups.{ShapeForm, groups_values}
+use Rattle.part_groups.specs.Groups.{ShapeForm}
 use Rattle.part_groups.specs.Reading.{Before, Stream, after, behind, groups_at, reading_of}
 
 -- The sum of so many numbers of 64 bits.

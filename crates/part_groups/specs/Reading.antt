@@ -11,7 +11,7 @@ use Rattle.semantics.specs.declared.kind.Kind.{Kind}
 use Rattle.semantics.specs.declared.kind.Kind.TheVariants as type
 use Rattle.values.specs.Datum.{data_of, datum_of}
 use Rattle.values.specs.declared.value.Value.{Value}
-use Rattle.group_states.specs.States.{EntryForm, FunctionState, rows, counted, summed, extreme, collected}
+use Rattle.semantics.specs.GroupStates.{EntryForm, FunctionState, rows, counted, summed, extreme, collected}
 use Rattle.part_text.specs.Reading.{line_value}
 use Rattle.part_groups.specs.declared.fault.GroupFault.{GroupFault}
 use Rattle.part_groups.specs.declared.fault.GroupFaultKind.{GroupFaultKind}

@@ -2,11 +2,11 @@
 ghost use Rattle.std.specs.Prelude.{◌<◌, ◌^◌, List, map};
 ghost use Rattle.std.specs.List.{AllByRecursion};
 ghost use Rattle.semantics.specs.Values.{Datum};
-ghost use Rattle.group_states.specs.States.{EntryForm};
+ghost use Rattle.semantics.specs.GroupStates.{EntryForm};
 ghost use Rattle.part_groups.specs.Groups.{HaveShape, ShapeForm};
 ghost use Rattle.part_groups.specs.Known.{AreGroupsFor, AreRead, AreReadAgain, AreReadAs, HaveValues, IsWritable};
 ghost use Rattle.part_groups.specs.Reading.{Before};
-ghost use Rattle.part_text.specs.Texts.{value_text};
+ghost use Rattle.semantics.specs.Parts.{value_text};
 
 use part_text::text_law;
 

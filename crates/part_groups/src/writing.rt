@@ -1,9 +1,8 @@
 //! Groups, written as lines.
 ghost use Rattle.std.specs.Prelude.{◌≡◌, ◌++◌, OnOk};
 ghost use Rattle.values.specs.Datum.{data_of};
-ghost use Rattle.part_text.specs.Texts.{text_of};
+ghost use Rattle.semantics.specs.Parts.{text_of, count_values, group_values, groups_values, state_values};
 ghost use Rattle.group_states.specs.States.{entries_of, entry_of, state_of};
-ghost use Rattle.part_groups.specs.Groups.{count_values, group_values, groups_values, state_values};
 
 use group_states::{GroupEntry, State};
 use part_text::push_value;

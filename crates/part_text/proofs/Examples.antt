@@ -5,7 +5,7 @@ use Rattle.std.specs.Str.{chars, is_utf8}
 use Rattle.json.proofs.OnLiterals.{json_on_literals}
 use Rattle.semantics.specs.Values.{boolean, whole, text, null}
 use Rattle.part_text.specs.Reading.{line_value}
-use Rattle.part_text.specs.Texts.{line_of, text_of}
+use Rattle.semantics.specs.Parts.{line_of, text_of}
 
 -- ---- texts
 

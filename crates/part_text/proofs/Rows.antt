@@ -7,7 +7,7 @@ use Rattle.std.specs.List.{onto_first, slice_split}
 use Rattle.std.specs.Prelude.{true, false}
 use Rattle.semantics.specs.Lines.{line_feed, lines, without_empty_last}
 use Rattle.semantics.specs.Values.{Datum, boolean, whole, text, null}
-use Rattle.part_text.specs.Texts.{line_of, text_of, value_text}
+use Rattle.semantics.specs.Parts.{line_of, text_of, value_text}
 use Rattle.part_text.proofs.Decimals.{signed-no_control}
 use Rattle.part_text.proofs.Numerals.{HasNoControl}
 use Rattle.part_text.proofs.Escapes.{quoted-no_control}

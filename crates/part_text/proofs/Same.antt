@@ -5,7 +5,8 @@ use Rattle.std.specs.Prelude.{IfSome, slice_index}
 use Rattle.json.specs.Lex.{tokens}
 use Rattle.semantics.specs.Values.{Datum, boolean, whole, text, null}
 use Rattle.part_text.specs.Reading.{IsTextOf, if_spelled, line_value, tokens_value}
-use Rattle.part_text.specs.Texts.{is_storable, value_text}
+use Rattle.part_text.specs.Texts.{is_storable}
+use Rattle.semantics.specs.Parts.{value_text}
 use Rattle.part_text.proofs.Decimals.{signed-bounds, signed-same}
 use Rattle.part_text.proofs.Spellings.{text-line_value, tokens-printed}
 

@@ -19,7 +19,8 @@ use Rattle.semantics.specs.Values.{Datum, boolean, whole, text, null}
 use Rattle.values.specs.Datum.{datum_of}
 use Rattle.values.specs.declared.value.Value.{Value}
 use Rattle.part_text.specs.Reading.{IsNoLiteralName, IsTextOf, Tells, TellsAmong, if_spelled, line_value, token_value, tokens_value}
-use Rattle.part_text.specs.Texts.{is_storable, value_text}
+use Rattle.part_text.specs.Texts.{is_storable}
+use Rattle.semantics.specs.Parts.{value_text}
 use Rattle.part_text.specs.declared.fault.ValueFault.{ValueFault}
 use Rattle.part_text.specs.declared.fault.ValueFault.TheVariants.{NotAValue, OutOfMemory}
 use Rattle.part_text.proofs.Numerals.{first-signed, number-signed, signed-IsUtf8, value-signed}

@@ -9,7 +9,8 @@ use Rattle.json.specs.Token.{Token}
 use Rattle.semantics.specs.Values.{Datum, boolean, whole, text, null}
 use Rattle.values.specs.Datum.{datum_of}
 use Rattle.values.specs.declared.value.Value.{Value}
-use Rattle.part_text.specs.Texts.{is_storable, value_text}
+use Rattle.part_text.specs.Texts.{is_storable}
+use Rattle.semantics.specs.Parts.{value_text}
 use Rattle.part_text.specs.declared.fault.ValueFault.{ValueFault}
 use Rattle.part_text.specs.declared.fault.ValueFault.TheVariants.{NotAValue, OutOfMemory}
 

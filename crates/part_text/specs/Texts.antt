@@ -7,24 +7,6 @@ use Rattle.json.specs.Print.{quoted}
 use Rattle.semantics.specs.Lines.{line_feed}
 use Rattle.semantics.specs.Values.{Datum, boolean, whole, text, null}
 
--- Truth values and NULL are the literal names of JSON (section 3). A whole number is its digits, with a
--- minus in front of a number below 0 (section 6). A text is a string with the shortest escapes
--- (section 7).
-abbrev pub value_text : Datum → List ℕ
-value_text (boolean true) = codes "true"
-value_text (boolean false) = codes "false"
-value_text (whole n) = signed_decimal n
-value_text (text s) = quoted s
-value_text null = codes "null"
-
--- The line of a value: its text and a line feed.
-abbrev pub line_of : Datum → List ℕ
-line_of d = value_text d ++ line_feed ∷ []
-
--- The lines of values, one behind the other.
-abbrev pub text_of : List Datum → List ℕ
-text_of values = flat_map line_of values
-
 -- Whether 128 bits hold a whole number: from -2^127 to 2^127 - 1.
 abbrev pub fits_128_bits : ℤ → Bool
 fits_128_bits (pos n) = nat_lt n (2 ^ 127)

@@ -4,7 +4,8 @@ ghost use Rattle.std.specs.List.{AllByRecursion};
 ghost use Rattle.semantics.specs.Lines.{lines};
 ghost use Rattle.semantics.specs.Values.{Datum};
 ghost use Rattle.part_text.specs.Reading.{IsTextOf, line_value};
-ghost use Rattle.part_text.specs.Texts.{is_storable, text_of, value_text};
+ghost use Rattle.part_text.specs.Texts.{is_storable};
+ghost use Rattle.semantics.specs.Parts.{text_of, value_text};
 
 /// A law: what is written of a value that a program can hold is read as that value, and nothing else is. Of the text of a
 /// value that none can hold, as a number of more than 128 bits, no other value is read. The lines of values written one

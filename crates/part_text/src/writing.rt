@@ -2,7 +2,7 @@
 ghost use Rattle.std.specs.Prelude.{◌≡◌, [], ◌∷◌, ◌++◌, OnOk};
 ghost use Rattle.semantics.specs.Lines.{line_feed};
 ghost use Rattle.values.specs.Datum.{datum_of};
-ghost use Rattle.part_text.specs.Texts.{line_of};
+ghost use Rattle.semantics.specs.Parts.{line_of};
 
 use crate::strings::json_string;
 use itoa::Buffer;

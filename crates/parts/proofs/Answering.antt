@@ -7,7 +7,7 @@ use Rattle.query_plan.specs.Planned.{PlannedQuery}
 use Rattle.semantics.specs.Columns.{Field}
 use Rattle.semantics.specs.Lines.{lines}
 use Rattle.semantics.specs.Syntax.{TreeForm}
-use Rattle.tables.specs.Contents.{ContentsForm, contents_over}
+use Rattle.semantics.specs.Parts.{ContentsForm, contents_over, concatenated, part_text}
 use Rattle.tables.specs.Partials.{StandsForInput}
 use Rattle.tables.specs.Sound.{IsSoundUnder}
 use Rattle.tables.specs.States.{PartialState}
@@ -17,7 +17,6 @@ use Rattle.parts.specs.declared.fault.PartsRefusal.TheVariants as refusal
 use Rattle.parts.specs.Faults.{PartedFault, RefusesParts, in_part, parted_of}
 use Rattle.parts.specs.Gathering.{IsOfOnePiece, contents_in}
 use Rattle.parts.specs.Joining.{AnswersParts, ArePartsFrom, JoinsBehind}
-use Rattle.parts.specs.Parts.{concatenated, part_text}
 use Rattle.parts.specs.Reader.{IsKnown, ReaderState, stream_of}
 use Rattle.parts.specs.ReadingParts.{behind_part, part_at, parts_at, with_fault}
 use Rattle.parts.proofs.AllBack.{all-back}

@@ -4,7 +4,8 @@ use Rattle.std.proofs.lemmas.List.Concat.{flat_map-cons}
 use Rattle.std.specs.Prelude.{◌^◌, IfOk, IfSome, nat_lt}
 use Rattle.part_groups.proofs.Again.{count-again, groups_at-again, value-again, within-again}
 use Rattle.part_groups.proofs.ReadAs as groups
-use Rattle.part_groups.specs.Groups.{HaveShape, ShapeForm, groups_values}
+use Rattle.part_groups.specs.Groups.{HaveShape, ShapeForm}
+use Rattle.semantics.specs.Parts.{groups_values, ContentsForm, text_of, columns_text, mark, number, refused_line_values, refused_values, values_with}
 use Rattle.part_groups.specs.Known.{AreReadAs}
 use Rattle.part_groups.specs.Reading.{Stream, count_at, count_within, groups_at, value_at}
 use Rattle.part_groups.specs.declared.fault.GroupFault.{GroupFault}
@@ -13,14 +14,11 @@ use Rattle.semantics.specs.Columns.{Field}
 use Rattle.semantics.specs.Syntax.{TreeForm}
 use Rattle.semantics.specs.Values.{Datum, text}
 use Rattle.semantics.specs.declared.line_fault.LineFault.{LineFault}
-use Rattle.tables.specs.Contents.{ContentsForm}
 use Rattle.semantics.specs.Texts.{fault_text}
 use Rattle.parts.specs.Faults.{Fault, FaultKind, not_a_part, other_columns, other_query, out_of_order, out_of_range, too_many_lines, wrong_checksum}
-use Rattle.part_text.specs.Texts.{text_of}
 use Rattle.hex.specs.Hex.{encode_lower}
 use Rattle.sha2.specs.Sha256.{sha256}
 use Rattle.std.specs.Str.{bytes_eq}
-use Rattle.parts.specs.Parts.{columns_text, mark, number, refused_line_values, refused_values, values_with}
 use Rattle.parts.specs.ReadingParts.{◌>>=◌, all_refused_at, checksum_at, contents_at, fault_named, can_have, group_count_at, header_at, header_of, kind_of_mark, line_fault_in, lines_at, mark_at, mark_in, none_other, of_part, other_at, other_text, part_at, passed, refused_at, refused_line_at, said_at, shape_under, text_at, text_in, with_fault}
 
 -- ---- one reading and then another one

@@ -9,13 +9,12 @@ use Rattle.lines.specs.Pieces.{AreWholeLines, EndsInFeed}
 use Rattle.semantics.specs.Columns.{Field}
 use Rattle.semantics.specs.Lines.{line_feed, lines, without_empty_last}
 use Rattle.semantics.specs.Syntax.{TreeForm}
-use Rattle.group_states.specs.Entries.{entries_over}
+use Rattle.semantics.specs.GroupStates.{entries_over}
 use Rattle.semantics.specs.Conditions.{kept_records}
 use Rattle.semantics.specs.Found.{aggregate_functions}
 use Rattle.semantics.specs.Sets.{grouping_places}
-use Rattle.tables.specs.Contents.{ContentsForm, contents_over}
+use Rattle.semantics.specs.Parts.{ContentsForm, contents_over, closed, concatenated}
 use Rattle.tables.specs.Folding.{refused_lines_of, valid_records_of}
-use Rattle.parts.specs.Parts.{closed, concatenated}
 
 -- ---- it is whole lines
 

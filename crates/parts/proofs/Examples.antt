@@ -12,9 +12,8 @@ use Rattle.semantics.specs.declared.comparison.Op.TheVariants.{Gt}
 use Rattle.semantics.specs.declared.kind.Kind.TheVariants as kind
 use Rattle.semantics.specs.declared.literal.Literal.TheVariants as constant
 use Rattle.hex.specs.Hex.{encode_with}
-use Rattle.part_text.specs.Texts.{text_of}
+use Rattle.semantics.specs.Parts.{text_of, closed, columns_text, concatenated, part_text, part_values}
 use Rattle.sha2.specs.Sha256.{sha256, digest_bytes, hash_after, compress, rounds, schedule, first_words}
-use Rattle.parts.specs.Parts.{closed, columns_text, concatenated, part_text, part_values}
 
 -- shop:text,cents:int
 abbrev fields : List Field

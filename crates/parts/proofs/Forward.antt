@@ -1,7 +1,7 @@
 -- Reading groups goes forward: behind what was read there are no more lines than before it.
 use Rattle.std.proofs.Common.{◌≤◌, ◌+◌, ◌^◌, ℕ, zero, suc, ℤ, pos, negsuc, Bool, true, false, cond, List, [], ◌∷◌, length, Option, Some, None, Result, Ok, Err, arith}
 use Rattle.std.specs.Prelude.{IfOk, nat_lt, nat_le, not}
-use Rattle.group_states.specs.States.{EntryForm, FunctionState, summed, collected, counted, extreme}
+use Rattle.semantics.specs.GroupStates.{EntryForm, FunctionState, summed, collected, counted, extreme}
 use Rattle.part_groups.proofs.ReadAs.{then_known, then_passed}
 use Rattle.part_groups.specs.Reading as groups
 use Rattle.part_groups.specs.Reading.{Before, Stream, after, ascending_at, collected_at, count_at, count_in, count_within, counted_at, different_at, each_at, extreme_at, first_line, group_at, groups_at, held_at, in_turn, is_above, is_held, is_sum_of, key_at, next_key_at, number_at, number_in, reading_of, state_at, summed_at, value_at, value_or_fault}

@@ -3,7 +3,7 @@ use Rattle.std.proofs.Common.{◌≡◌, ℕ, List, [], ◌∷◌, ◌++◌, sym
 use Rattle.std.proofs.lemmas.Grind.{flat_map-append}
 use Rattle.std.proofs.lemmas.List.Concat.{flat_map-cons}
 use Rattle.semantics.specs.Values.{Datum}
-use Rattle.part_text.specs.Texts.{line_of, text_of}
+use Rattle.semantics.specs.Parts.{line_of, text_of}
 
 -- the lines of one more value behind others
 pub text-push : (ds : List Datum) (d : Datum) → text_of (ds ++ d ∷ []) ≡ text_of ds ++ line_of d

@@ -5,7 +5,8 @@ use Rattle.std.proofs.lemmas.List.Concat.{flat_map-cons}
 use Rattle.part_groups.specs.Reading.{Stream}
 use Rattle.query_plan.specs.Planned.{PlannedQuery}
 use Rattle.tables.proofs.Following.{one-piece}
-use Rattle.tables.specs.Contents.{ContentsForm, HasContents, contents_over}
+use Rattle.tables.specs.Contents.{HasContents}
+use Rattle.semantics.specs.Parts.{ContentsForm, contents_over, closed, concatenated}
 use Rattle.tables.specs.Partials.{IsConcatenationOf, StandsForInput, whole_piece}
 use Rattle.tables.specs.Sound.{IsSoundUnder}
 use Rattle.tables.specs.States.{PartialState}
@@ -14,7 +15,6 @@ use Rattle.parts.specs.declared.fault.PartsRefusal.TheVariants as refusal
 use Rattle.parts.specs.Faults.{PartedFault, RefusesParts, in_part, parted_of}
 use Rattle.parts.specs.Gathering.{IsOfOnePiece, contents_in}
 use Rattle.parts.specs.Joining.{ArePartsFrom, JoinsBehind, StandsForAll}
-use Rattle.parts.specs.Parts.{closed, concatenated}
 use Rattle.parts.specs.Reader.{IsKnown, ReaderState, stream_of}
 use Rattle.parts.specs.ReadingParts.{◌>>=◌, behind_part, part_at, with_fault}
 use Rattle.parts.proofs.Closing.{closed-contents, concatenated-whole}

@@ -3,15 +3,14 @@ use Rattle.std.proofs.Common.{◌≡◌, ◌++◌, ◌∷◌, [], ℕ, List, len
 use Rattle.std.proofs.lemmas.Grind.{flat_map-append}
 use Rattle.std.proofs.lemmas.List.Concat.{flat_map-cons}
 use Rattle.std.specs.Prelude.{IfOk}
-use Rattle.group_states.specs.States.{EntryForm}
-use Rattle.part_groups.specs.Groups.{group_values, groups_values}
+use Rattle.semantics.specs.GroupStates.{EntryForm}
+use Rattle.semantics.specs.Parts.{group_values, groups_values, line_of, text_of, columns_text, front_of, front_values, values_with}
 use Rattle.part_groups.specs.Reading as groups
 use Rattle.part_groups.specs.declared.fault.GroupFault.{GroupFault}
 use Rattle.part_groups.specs.declared.fault.GroupFaultKind.{GroupFaultKind}
 use Rattle.part_groups.specs.declared.fault.GroupFaultKind.TheVariants as group_fault_kind
 use Rattle.part_groups.specs.declared.fault.GroupRefusal.{GroupRefusal}
 use Rattle.part_groups.specs.declared.fault.GroupRefusal.TheVariants as refusal
-use Rattle.part_text.specs.Texts.{line_of, text_of}
 use Rattle.sha2.specs.Hashers.{Holds256}
 use Rattle.sha2.specs.declared.Sha256.{Sha256}
 use Rattle.semantics.specs.Canonical.{canonical_text}
@@ -23,7 +22,6 @@ use Rattle.tables.specs.States.{PartialState}
 use Rattle.parts.specs.Faults.{FaultKind, Refuses, group_kind, kind_of, kind_of_groups, refusal_of_groups}
 use Rattle.parts.specs.Gathering.{contents_of, first_refused, groups_of, refused_in}
 use Rattle.parts.specs.declared.gathering.Gathering.{Gathering}
-use Rattle.parts.specs.Parts.{columns_text, front_of, front_values, values_with}
 use Rattle.parts.specs.ReadingParts.{of_part}
 
 kind-kept : (k : GroupFaultKind) → group_kind k ≡ kind_of (kind_of_groups k)

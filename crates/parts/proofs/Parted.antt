@@ -6,14 +6,11 @@ use Rattle.std.specs.Global.{Vec}
 use Rattle.std.specs.Prelude.{IfOk}
 use Rattle.group_states.specs.States.{entries_of, entry_of}
 use Rattle.group_states.specs.declared.entry.GroupEntry.{GroupEntry}
-use Rattle.part_groups.specs.Groups.{groups_values}
-use Rattle.part_text.specs.Texts.{line_of, text_of}
+use Rattle.semantics.specs.Parts.{groups_values, line_of, text_of, ContentsForm, contents_over, columns_text, front_of, front_values, part_text, values_with, with_checksum}
 use Rattle.semantics.specs.Canonical.{canonical_text}
 use Rattle.semantics.specs.Columns.{Field}
 use Rattle.semantics.specs.Syntax.{TreeForm}
 use Rattle.semantics.specs.declared.line_fault.LineFault.{LineFault}
-use Rattle.tables.specs.Contents.{ContentsForm, contents_over}
-use Rattle.parts.specs.Parts.{columns_text, front_of, front_values, part_text, values_with, with_checksum}
 
 pub lines-of : (front all : List ℕ) (fields seen : List Field) (q : TreeForm) (columns query : List ℕ) (lines count : ℕ) (refused seen_refused : List (ℕ × LineFault)) (groups seen_groups : List GroupEntry)
     → front ≡ text_of (front_of columns query seen lines seen_refused count) → all ≡ front ++ text_of (groups_values (entries_of seen_groups)) → seen ≡ fields → columns ≡ columns_text fields → query ≡ canonical_text q → count ≡ length seen_groups

@@ -10,7 +10,7 @@ use Rattle.semantics.specs.Syntax.{TreeForm, function, over_all}
 use Rattle.semantics.specs.Words.{reserved_word}
 use Rattle.semantics.specs.declared.aggregate.Aggregate.TheVariants as aggregate
 use Rattle.semantics.specs.declared.kind.Kind.TheVariants as kind
-use Rattle.group_states.specs.States.{summed}
+use Rattle.semantics.specs.GroupStates.{summed}
 use Rattle.semantics.specs.declared.line_fault.LineFault.TheVariants.{NoJson}
 use Rattle.part_groups.specs.Reading.{count_at, count_within, each_at, group_at, in_turn, next_key_at, number_at, summed_at, value_at}
 use Rattle.hex.specs.Hex.{encode_with}

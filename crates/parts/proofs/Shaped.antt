@@ -4,9 +4,10 @@ use Rattle.std.proofs.lemmas.List.Elements.{All-nil, All-push, All-weaker}
 use Rattle.std.specs.List.{AllZip}
 use Rattle.std.specs.declared.cmp.Ordering.TheVariants.{Less}
 use Rattle.std.specs.Prelude.{option_map, unwrap_or}
-use Rattle.group_states.specs.States.{EntryForm, FunctionState, entry_of}
+use Rattle.group_states.specs.States.{entry_of}
+use Rattle.semantics.specs.GroupStates.{EntryForm, FunctionState}
 use Rattle.group_states.specs.declared.entry.GroupEntry.{GroupEntry}
-use Rattle.group_states.specs.States as state
+use Rattle.semantics.specs.GroupStates as state
 use Rattle.part_groups.specs.Known as known
 use Rattle.part_groups.specs.declared.shape.StateKind.TheVariants as kind
 use Rattle.query_plan.specs.Planned.{PlannedQuery}

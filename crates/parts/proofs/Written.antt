@@ -5,7 +5,7 @@ use Rattle.std.specs.List.{AllByRecursion, AllZip}
 use Rattle.std.specs.Ordering.{is_gt}
 use Rattle.std.specs.Prelude.{option_map}
 use Rattle.std.specs.declared.cmp.Ordering.{Ordering}
-use Rattle.group_states.specs.Entries.{entries_over, entry_over, function_state, state_by}
+use Rattle.semantics.specs.GroupStates.{entries_over, entry_over, function_state, state_by}
 use Rattle.part_groups.specs.Groups.{HasKind, HasShape, HaveShape}
 use Rattle.query_resolve.specs.Functions.{indexed_functions}
 use Rattle.query_resolve.specs.declared.function.FilteredFunction.{FilteredFunction}

@@ -8,9 +8,9 @@ use Rattle.part_groups.specs.declared.fault.GroupRefusal.TheVariants as of_group
 use Rattle.parts.specs.declared.fault.PartFault.{PartFault}
 use Rattle.parts.specs.declared.fault.PartRefusal.{PartRefusal}
 use Rattle.parts.specs.declared.fault.PartRefusal.TheVariants as refusal
-use Rattle.parts.specs.declared.fault.PartsFault.{PartsFault}
-use Rattle.parts.specs.declared.fault.PartsFaultKind.{PartsFaultKind}
-use Rattle.parts.specs.declared.fault.PartsFaultKind.TheVariants as kind
+use Rattle.semantics.specs.declared.parts_fault.PartsFault.{PartsFault}
+use Rattle.semantics.specs.declared.parts_fault.PartsFaultKind.{PartsFaultKind}
+use Rattle.semantics.specs.declared.parts_fault.PartsFaultKind.TheVariants as kind
 use Rattle.parts.specs.declared.fault.PartsRefusal.{PartsRefusal}
 use Rattle.parts.specs.declared.fault.PartsRefusal.TheVariants as of_parts
 

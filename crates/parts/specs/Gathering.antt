@@ -1,12 +1,14 @@
 -- The groups of a part, put to a partial result as they come. Private calls alone speak of it.
 use Rattle.std.specs.Prelude.{◌≡◌, ◌+◌, ◌≤◌, ⊤, ℕ, List, [], ◌∷◌, ◌++◌, Option, Some, None}
-use Rattle.group_states.specs.States.{EntryForm, entry_of}
+use Rattle.group_states.specs.States.{entry_of}
+use Rattle.semantics.specs.GroupStates.{EntryForm}
 use Rattle.group_states.specs.declared.entry.GroupEntry.{GroupEntry}
 use Rattle.query_plan.specs.Planned.{PlannedQuery}
 use Rattle.query_resolve.specs.Functions.{indexed_functions}
 use Rattle.semantics.specs.Groups.{Key}
 use Rattle.semantics.specs.declared.line_fault.LineFault.{LineFault}
-use Rattle.tables.specs.Contents.{ContentsForm, HasMembersWithin, HasRefusals, IsTypedEntryUnder, groups_in}
+use Rattle.tables.specs.Contents.{HasMembersWithin, HasRefusals, IsTypedEntryUnder, groups_in}
+use Rattle.semantics.specs.Parts.{ContentsForm}
 use Rattle.tables.specs.Notes.{Noted}
 use Rattle.tables.specs.Sound.{IsSoundUnder}
 use Rattle.tables.specs.States.{PartialState}

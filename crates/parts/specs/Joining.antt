@@ -4,13 +4,12 @@ use Rattle.part_groups.specs.Reading.{Stream}
 use Rattle.query_plan.specs.Planned.{PlannedQuery}
 use Rattle.semantics.specs.Columns.{Field}
 use Rattle.semantics.specs.Syntax.{TreeForm}
-use Rattle.tables.specs.Contents.{ContentsForm, contents_over}
+use Rattle.semantics.specs.Parts.{ContentsForm, contents_over, concatenated}
 use Rattle.tables.specs.Partials.{StandsForInput}
 use Rattle.tables.specs.States.{PartialState}
 use Rattle.parts.specs.declared.fault.PartsRefusal.{PartsRefusal}
 use Rattle.parts.specs.declared.fault.PartsRefusal.TheVariants as refusal
 use Rattle.parts.specs.Faults.{PartedFault, parted_of}
-use Rattle.parts.specs.Parts.{concatenated}
 use Rattle.parts.specs.ReadingParts.{parts_at, parts_from}
 
 -- A result is that of these contents, one behind the other: whatever inputs they are the contents of, it

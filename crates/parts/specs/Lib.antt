@@ -1,4 +1,3 @@
-pub mod Parts
 pub mod Faults
 pub mod Reader
 pub mod Texts

@@ -23,12 +23,10 @@ use Rattle.part_groups.specs.declared.shape.StateKind.{StateKind}
 use Rattle.part_groups.specs.declared.shape.StateKind.TheVariants as kind
 use Rattle.part_groups.specs.Groups.{ShapeForm}
 use Rattle.part_groups.specs.Reading.{Stream, count_at, count_within, groups_at, value_at}
-use Rattle.part_text.specs.Texts.{text_of}
+use Rattle.semantics.specs.Parts.{text_of, ContentsForm, columns_text, mark, values_with}
 use Rattle.query_resolve.specs.Functions.{indexed_functions}
 use Rattle.query_resolve.specs.declared.function.FilteredFunction.{FilteredFunction}
-use Rattle.tables.specs.Contents.{ContentsForm}
 use Rattle.parts.specs.Faults.{Fault, FaultKind, PartedFault, in_part, group_fault, no_part, not_a_part, other_version, other_columns, other_query, unexpected_value, out_of_order, out_of_range, wrong_checksum, too_many_lines}
-use Rattle.parts.specs.Parts.{columns_text, mark, values_with}
 
 -- One reading and then another one, which a fault of the first ends.
 infixl 10 ◌>>=◌

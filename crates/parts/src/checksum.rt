@@ -4,13 +4,14 @@ ghost use Rattle.sha2.specs.Sha256.{sha256};
 ghost use Rattle.sha2.specs.Hashers.{Holds256};
 ghost use Rattle.std.specs.Prelude.{◌≡◌, ℕ, IfOk, List, OnOk, string_bytes};
 ghost use Rattle.parts.specs.Faults.{Gives};
-ghost use Rattle.parts.specs.Parts.{with_checksum};
+ghost use Rattle.semantics.specs.Parts.{with_checksum};
 ghost use Rattle.parts.specs.ReadingParts.{checksum_at};
 
-use crate::fault::{PartRefusal, PartsFaultKind};
+use crate::fault::PartRefusal;
 use crate::texts::{check, next_text};
 use crate::writing::push_text;
 use part_groups::Source;
+use semantics::PartsFaultKind;
 use sha2::{Digest, Sha256};
 use std::alloc::{AllocError, Global};
 

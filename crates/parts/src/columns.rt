@@ -2,7 +2,7 @@
 ghost use Rattle.std.specs.List.{flat_map};
 ghost use Rattle.std.specs.Prelude.{◌≡◌, ◌++◌, IfOk, OnOk, codes, map, string_bytes};
 ghost use Rattle.values.specs.Schema.{field_of, fields_of};
-ghost use Rattle.parts.specs.Parts.{column_text, columns_text, kind_text};
+ghost use Rattle.semantics.specs.Parts.{column_text, columns_text, kind_text};
 
 use semantics::Kind;
 use std::alloc::{AllocError, Global};

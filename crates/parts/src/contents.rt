@@ -1,16 +1,15 @@
 //! The contents of a part: its lines, the refused ones of them, and its groups.
 ghost use Rattle.std.specs.Prelude.{◌≡◌, ◌+◌, ◌-◌, ◌^◌, ◌<◌, ◌≤◌, All, IfOk, None, OnOk, [], length, string_bytes};
 ghost use Rattle.part_groups.specs.Groups.{shape_of};
-ghost use Rattle.part_text.specs.Texts.{text_of};
+ghost use Rattle.semantics.specs.Parts.{text_of, columns_text, values_with};
 ghost use Rattle.semantics.specs.Canonical.{canonical_text};
 ghost use Rattle.sha2.specs.Hashers.{Holds256};
 ghost use Rattle.tables.specs.Contents.{HasRefusals, groups_in};
 ghost use Rattle.parts.specs.Faults.{Gives};
 ghost use Rattle.parts.specs.Gathering.{IsGathering, IsOfOnePiece, contents_of};
-ghost use Rattle.parts.specs.Parts.{columns_text, values_with};
 ghost use Rattle.parts.specs.ReadingParts.{can_have, contents_at, group_count_at, lines_at, shape_under};
 
-use crate::fault::{PartRefusal, PartsFaultKind};
+use crate::fault::PartRefusal;
 use crate::gathering::Gathering;
 use crate::groups::next_groups;
 use crate::refused::next_refused;
@@ -19,7 +18,7 @@ use crate::writing::{Header, front_text};
 use lines::LineFault;
 use part_groups::{GroupShape, Source, next_count};
 use query_plan::Plan;
-use semantics::Kind;
+use semantics::{Kind, PartsFaultKind};
 use sha2::{Digest, Sha256};
 use std::alloc::{AllocError, Global};
 use tables::{Executor, Partial};

@@ -7,68 +7,9 @@ ghost use Rattle.parts.specs.declared.fault.PartsRefusal.TheVariants as of_parts
 
 use lines::ReadFault;
 use part_groups::{GroupFaultKind, GroupRefusal};
+use semantics::{PartsFault, PartsFaultKind};
 use std::alloc::{AllocError, AllocFailed};
 use thiserror::Error;
-
-/// What is wrong with a line of parts.
-///
-/// Example: the text of `PartsFaultKind::OutOfOrder` is `out of order`.
-#[derive(Debug, PartialEq, Eq, Drop, Error)]
-pub enum PartsFaultKind {
-    /// There is no line at all.
-    #[error("no part")]
-    NoPart,
-    /// A part should begin, and the line is not the mark of one.
-    #[error("not a part")]
-    NotAPart,
-    /// The line is the mark of a part of this version, a whole number.
-    #[error("a part of version {0}")]
-    OtherVersion(String),
-    /// The part is of other columns: those that the line names, as it stands, in quotes.
-    #[error("other columns: {0}")]
-    OtherColumns(String),
-    /// The part is of another query: that of the line, as it stands, in quotes.
-    #[error("another query: {0}")]
-    OtherQuery(String),
-    /// The line is the text of no value, or has more than 1,048,576 bytes.
-    #[error("not a value")]
-    NotAValue,
-    /// The value is not of the type that stands in its place.
-    #[error("unexpected value")]
-    UnexpectedValue,
-    /// A key, a different value or the number of a refused line is not above the one before.
-    #[error("out of order")]
-    OutOfOrder,
-    /// There are more refused lines than lines, or one behind the last line; or more records than good lines, or more of them
-    /// counted or added than there are; or so many whole numbers of 64 bits have no such sum; or without GROUP BY there is not
-    /// exactly one group.
-    #[error("out of range")]
-    OutOfRange,
-    /// The lines end before the part does.
-    #[error("ends too early")]
-    EndsTooEarly,
-    /// The checksum is not that of the lines before it.
-    #[error("checksum does not fit")]
-    WrongChecksum,
-    /// All parts so far have 2^63 lines or more together.
-    #[error("too many lines")]
-    TooManyLines,
-}
-
-/// The first fault of parts, from the front.
-///
-/// Example: of two parts of 20 lines each, of which the checksum of the second one does not fit, it is `WrongChecksum` in the part
-/// 2, at the line 40. Its text is `part 2, line 40: checksum does not fit`.
-#[derive(Debug, PartialEq, Eq, Drop, Error)]
-#[error("part {part}, line {line}: {kind}")]
-pub struct PartsFault {
-    /// The number of the part, from 1.
-    pub part: u64,
-    /// The number of the line, from 1 over all parts. Where they end too early it is the number that the next line would have.
-    pub line: u64,
-    /// What is wrong there.
-    pub kind: PartsFaultKind,
-}
 
 /// Why parts are not read.
 #[derive(Debug, Drop, Error)]

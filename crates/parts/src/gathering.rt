@@ -2,9 +2,8 @@
 ghost use Rattle.std.specs.Option.{option_copied};
 ghost use Rattle.std.specs.Prelude.{◌≡◌, ◌-◌, ◌++◌, ◌∷◌, [], ℕ, IfOk, List, None, OnOk, Some, option_map};
 ghost use Rattle.group_states.specs.States.{entry_of};
-ghost use Rattle.part_groups.specs.Groups.{group_values};
+ghost use Rattle.semantics.specs.Parts.{group_values, text_of};
 ghost use Rattle.part_groups.specs.Known.{IsGroupFor};
-ghost use Rattle.part_text.specs.Texts.{text_of};
 ghost use Rattle.sha2.specs.Hashers.{Holds256};
 ghost use Rattle.tables.specs.Contents.{DiffersInGroups};
 ghost use Rattle.tables.specs.Sound.{IsSoundUnder};

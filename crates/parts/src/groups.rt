@@ -1,8 +1,8 @@
 //! The groups of a part.
 ghost use Rattle.std.specs.Prelude.{◌≡◌, ◌++◌, ℕ, IfOk, List, None, OnOk, length};
-ghost use Rattle.part_groups.specs.Groups.{groups_values, shape_of};
+ghost use Rattle.part_groups.specs.Groups.{shape_of};
+ghost use Rattle.semantics.specs.Parts.{groups_values, text_of};
 ghost use Rattle.part_groups.specs.Reading.{groups_at};
-ghost use Rattle.part_text.specs.Texts.{text_of};
 ghost use Rattle.sha2.specs.Hashers.{Holds256};
 ghost use Rattle.tables.specs.Contents.{DiffersInGroups};
 ghost use Rattle.parts.specs.Faults.{Gives};

@@ -7,9 +7,10 @@ ghost use Rattle.parts.specs.Faults.{Gives, kind_of, other_columns, other_query,
 ghost use Rattle.parts.specs.ReadingParts.{behind_front, header_of, is_version, kind_of_mark, mark_at, mark_in, said_at};
 ghost use Rattle.parts.specs.Texts.{IsBehind};
 
-use crate::fault::{PartFault, PartRefusal, PartsFaultKind};
+use crate::fault::{PartFault, PartRefusal};
 use crate::texts::{fault, next_other};
 use part_groups::{GroupRefusal, Source};
+use semantics::PartsFaultKind;
 use std::alloc::{AllocError, Global};
 use values::Value;
 

@@ -22,6 +22,7 @@ mod texts;
 mod whole;
 mod writing;
 
-pub use fault::{PartsFault, PartsFaultKind, PartsRefusal};
+pub use fault::PartsRefusal;
 pub use joining::read_parts;
+pub use semantics::{PartsFault, PartsFaultKind};
 pub use whole::write_part;

@@ -5,7 +5,7 @@ ghost use Rattle.semantics.specs.Canonical.{canonical_text};
 ghost use Rattle.tables.specs.Sound.{IsSoundUnder};
 ghost use Rattle.parts.specs.Faults.{Gives};
 ghost use Rattle.parts.specs.Gathering.{IsOfOnePiece, contents_in};
-ghost use Rattle.parts.specs.Parts.{columns_text};
+ghost use Rattle.semantics.specs.Parts.{columns_text};
 ghost use Rattle.parts.specs.ReadingParts.{part_at, shape_under};
 
 use crate::checksum::next_checksum;

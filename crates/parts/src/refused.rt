@@ -4,11 +4,12 @@ ghost use Rattle.values.specs.Schema.{fields_of};
 ghost use Rattle.parts.specs.Faults.{Gives};
 ghost use Rattle.parts.specs.ReadingParts.{all_refused_at, refused_at, refused_line_at};
 
-use crate::fault::{PartRefusal, PartsFaultKind};
+use crate::fault::PartRefusal;
 use crate::line_faults::fault_named;
 use crate::texts::{check, fault, next_text};
 use lines::LineFault;
 use part_groups::{Source, next_count_within};
+use semantics::PartsFaultKind;
 use std::alloc::Global;
 use values::Column;
 

@@ -4,9 +4,10 @@ ghost use Rattle.json.specs.Print.{quoted};
 ghost use Rattle.parts.specs.Faults.{Gives, fault_at_line, kind_of};
 ghost use Rattle.parts.specs.ReadingParts.{other_at, other_text, passed, text_at};
 
-use crate::fault::{PartFault, PartRefusal, PartsFaultKind};
+use crate::fault::{PartFault, PartRefusal};
 use json::Writer;
 use part_groups::Source;
+use semantics::PartsFaultKind;
 use std::alloc::{AllocError, Global};
 use values::Value;
 

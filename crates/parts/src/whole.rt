@@ -1,7 +1,7 @@
 //! A partial result as the text of a part.
 ghost use Rattle.std.specs.Prelude.{◌≡◌, ℕ, IfOk, List};
 ghost use Rattle.tables.specs.Partials.{StandsForInput};
-ghost use Rattle.parts.specs.Parts.{part_text};
+ghost use Rattle.semantics.specs.Parts.{part_text};
 
 use crate::checksum::with_checksum;
 use crate::writing::{front_text, header_of};

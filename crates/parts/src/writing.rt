@@ -3,8 +3,7 @@ ghost use Rattle.std.specs.Prelude.{◌≡◌, [], ◌∷◌, ◌++◌, IfOk, On
 ghost use Rattle.semantics.specs.Canonical.{canonical_text};
 ghost use Rattle.semantics.specs.Values as semantics;
 ghost use Rattle.values.specs.Schema.{fields_of};
-ghost use Rattle.part_text.specs.Texts.{line_of, text_of};
-ghost use Rattle.parts.specs.Parts.{columns_text, front_of, header_of, number, refused_line_values, refused_values};
+ghost use Rattle.semantics.specs.Parts.{line_of, text_of, columns_text, front_of, header_of, number, refused_line_values, refused_values};
 
 use crate::columns::columns_text;
 use crate::header::MARK;

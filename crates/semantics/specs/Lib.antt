@@ -25,6 +25,9 @@ pub mod Rows
 pub mod Order
 pub mod Texts
 pub mod Run
+pub mod GroupStates
+pub mod Parts
+pub mod Joins
 pub mod CommandLine
 pub mod Explanation
 pub mod Inside

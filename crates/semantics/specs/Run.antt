@@ -11,7 +11,7 @@ use Rattle.semantics.specs.Syntax.{TreeForm}
 use Rattle.semantics.specs.Texts.{refused_line, report_bytes}
 use Rattle.semantics.specs.declared.run_done.Done.{Done}
 use Rattle.semantics.specs.declared.run_fault.RunFault.{RunFault}
-use Rattle.semantics.specs.declared.run_fault.RunFault.TheVariants.{Reading, OutOfMemory, ThreadNotStarted, TooManyRefused, WritingReport, WritingRefused}
+use Rattle.semantics.specs.declared.run_fault.RunFault.TheVariants.{Reading, OutOfMemory, ThreadNotStarted, TooManyRefused, WritingReport, WritingRefused, WritingPart}
 
 -- The known bytes grew by a beginning of the text, which may be none or all of it.
 abbrev pub AppendsBeginning : Option (List ℕ) → Option (List ℕ) → List ℕ → Type 0
@@ -37,7 +37,7 @@ IsResourceFault fault = ⊤
 -- What a fault says, and what it leaves of the two outputs. Nothing was written where a read
 -- failed, memory or a thread was refused, or more lines are refused than the limit. Where a write
 -- failed, not more lines are refused than the limit: a beginning of the report was written and
--- nothing of the list, or the report and a beginning of the list.
+-- nothing of the list, or the report and a beginning of the list. No part is written.
 abbrev pub Leaves :
     RunFault → Option ℕ → List Field → TreeForm → Option (List ℕ) → (out_old out_new err_old err_new : Option (List ℕ)) → Type 0
 Leaves Reading limit fields q input out_old out_new err_old err_new = Keeps out_old out_new × Keeps err_old err_new
@@ -54,16 +54,21 @@ Leaves WritingRefused limit fields q input out_old out_new err_old err_new =
     IfSome input (λ bytes. IsWithin limit (length (refused_lines fields bytes))
     × Appends out_old out_new (report fields q bytes)
     × AppendsBeginning err_old err_new (refusals fields bytes))
+Leaves WritingPart limit fields q input out_old out_new err_old err_new = ⊥
 
--- What a run answers and writes. It is done: the report and the list of the refused lines were
--- written, the counts of lines and of refused lines are answered, and these are within the limit.
--- Or it answers a fault, which leaves of the outputs what it says. Where nothing was refused to the
--- run, it is done exactly where not more lines are refused than the limit.
-pub record IsRun (result : Result Done RunFault) (limit : Option ℕ) (fields : List Field) (q : TreeForm) (input out_old out_new err_old err_new : Option (List ℕ)) : Type 0 where
-  pub writes_report : OnOk result (IfSome input (λ bytes. Appends out_old out_new (report fields q bytes)))
-  pub writes_refusals : OnOk result (IfSome input (λ bytes. Appends err_old err_new (refusals fields bytes)))
+-- What a run answers of its input. Where it is done, it answers the counts of lines and of refused
+-- lines, and these are within the limit. Where nothing was refused to it, it is done exactly where
+-- not more lines are refused than the limit.
+pub record IsAnswer (result : Result Done RunFault) (limit : Option ℕ) (fields : List Field) (input : Option (List ℕ)) : Type 0 where
   pub counts_lines : IfOk result (λ done. IfSome input (λ bytes. done.lines ≡ length (lines bytes)))
   pub counts_refused : IfOk result (λ done. IfSome input (λ bytes. done.refused ≡ length (refused_lines fields bytes)))
   pub is_within : IfOk result (λ done. IsWithin limit done.refused)
   pub is_decided : IfErr result (λ fault. IsResourceFault fault → ⊥) → IfSome input (λ bytes. IsOk result ↔ IsWithin limit (length (refused_lines fields bytes)))
+
+-- What a run answers and writes. It is done: the report and the list of the refused lines were
+-- written. Or it answers a fault, which leaves of the outputs what it says.
+pub record IsRun (result : Result Done RunFault) (limit : Option ℕ) (fields : List Field) (q : TreeForm) (input out_old out_new err_old err_new : Option (List ℕ)) : Type 0 where
+  pub writes_report : OnOk result (IfSome input (λ bytes. Appends out_old out_new (report fields q bytes)))
+  pub writes_refusals : OnOk result (IfSome input (λ bytes. Appends err_old err_new (refusals fields bytes)))
+  pub answers : IsAnswer result limit fields input
   pub leaves : IfErr result (λ fault. Leaves fault limit fields q input out_old out_new err_old err_new)

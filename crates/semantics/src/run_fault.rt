@@ -31,6 +31,10 @@ pub enum RunFault {
     /// beginning of the list, which may be none or all of it.
     #[error("writing the refused lines failed")]
     WritingRefused,
+    /// A write or the flush of the part failed, where a part is written in place of the report. A
+    /// beginning of it was written, which may be none or all of it.
+    #[error("writing the part failed")]
+    WritingPart,
 }
 
 impl From<AllocError> for RunFault {

@@ -8,8 +8,8 @@ use Rattle.semantics.specs.Records.{refused_lines, valid_records}
 use Rattle.semantics.specs.Sets.{grouping_places}
 use Rattle.semantics.specs.Syntax.{TreeForm}
 use Rattle.semantics.specs.declared.line_fault.LineFault.{LineFault}
-use Rattle.group_states.specs.Entries.{entries_over}
-use Rattle.group_states.specs.States.{EntryForm, entries_of}
+use Rattle.semantics.specs.GroupStates.{entries_over, EntryForm}
+use Rattle.group_states.specs.States.{entries_of}
 use Rattle.query_plan.specs.Planned.{PlannedQuery}
 use Rattle.query_resolve.specs.Functions.{indexed_functions}
 use Rattle.tables_groups.specs.Inside.Entries.{IsTypedEntry, table_entries}
@@ -17,20 +17,6 @@ use Rattle.tables_groups.specs.Inside.Table.{IsCounted}
 use Rattle.tables.specs.declared.contents.PartialContents.{PartialContents}
 use Rattle.tables.specs.Partials.{HaveOneShape}
 use Rattle.tables.specs.States.{PartialState}
-
--- The number of all lines of an input, its refused lines by their numbers, and the groups of its records, by ascending keys.
-pub record ContentsForm : Type 0 where
-  pub lines : ℕ
-  pub refused : List (ℕ × LineFault)
-  pub groups : List EntryForm
-
--- those of an input under a schema and a query: the groups are those of all grouping columns over the valid records that WHERE keeps
-abbrev pub contents_over : List Field → TreeForm → List ℕ → ContentsForm
-contents_over fields q input = record {
-  lines = length (lines input);
-  refused = refused_lines fields input;
-  groups = entries_over (grouping_places fields q) (aggregate_functions fields q) (kept_records fields q (valid_records fields input));
-}
 
 -- those that a value of the code is
 abbrev pub contents_of : PartialContents → ContentsForm

@@ -96,7 +96,8 @@ impl Partial {
     ghost use Rattle.group_states.specs.States.{entry_of};
     ghost use Rattle.query_plan.specs.Planned.{PlannedQuery};
     ghost use Rattle.tables_groups.specs.Inside.Entries.{IsBehind, IsEntryFor};
-    ghost use Rattle.tables.specs.Contents.{DiffersInGroups, HasGroupBehind, HasMembersWithin, HasRefusals, HasRoomFor, IsTypedEntryUnder, contents_of, contents_over, groups_in};
+    ghost use Rattle.tables.specs.Contents.{DiffersInGroups, HasGroupBehind, HasMembersWithin, HasRefusals, HasRoomFor, IsTypedEntryUnder, contents_of, groups_in};
+    ghost use Rattle.semantics.specs.Parts.{contents_over};
     ghost use Rattle.tables.specs.Sound.{IsSoundUnder, IsSoundWhere, IsSoundWhereBoth};
     ghost use Rattle.values.specs.Datum.{data_of};
     ghost use Rattle.tables.specs.Pieces.{IndexedPiece, all_lines, records_of, refused_lines_within};

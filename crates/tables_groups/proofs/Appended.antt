@@ -12,7 +12,7 @@ use Rattle.std.specs.Ordering.{is_eq, is_lt, ordering_reverse}
 use lib.Dec.{T}
 use Rattle.semantics.specs.Groups.{Key, key_order, same_key}
 use Rattle.query_resolve.specs.declared.function.FilteredFunction.{FilteredFunction}
-use Rattle.group_states.specs.States.{EntryForm, FunctionState}
+use Rattle.semantics.specs.GroupStates.{EntryForm, FunctionState}
 use Rattle.tables_groups.specs.Inside.Entries.{AreStatesFor, CountsEntry, IsBehind, IsEntryFor, entry_at, kept_group, kept_states, table_entries}
 use Rattle.tables_groups.specs.Inside.Group.{GroupState}
 use Rattle.tables_groups.specs.Inside.Table.{Contents, IsFitting, IsPut, joint_option, lines_of}

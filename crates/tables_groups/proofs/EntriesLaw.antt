@@ -10,8 +10,7 @@ use Rattle.semantics.specs.Columns.{Field}
 use Rattle.semantics.specs.Groups.{Key, Row, key_order, keys, members, same_key}
 use Rattle.semantics.specs.Order.{in_order}
 use Rattle.query_resolve.specs.declared.function.FilteredFunction.{FilteredFunction}
-use Rattle.group_states.specs.Entries.{entries_over, entry_over}
-use Rattle.group_states.specs.States.{EntryForm}
+use Rattle.semantics.specs.GroupStates.{entries_over, entry_over, EntryForm}
 use Rattle.tables_groups.specs.Functions.{aggregates_of}
 use Rattle.tables_groups.specs.Inside.Entries.{entry_at, table_entries}
 use Rattle.tables_groups.specs.Inside.Group.{GroupState, group_state}

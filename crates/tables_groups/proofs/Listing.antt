@@ -11,7 +11,8 @@ use Rattle.std.specs.List.Sorted.{IsStrictlySortedBy}
 use Rattle.std.specs.Map.{keys_of}
 use Rattle.semantics.specs.Groups.{Key, key_order, same_key}
 use Rattle.sort_keys.specs.SortKeys.{SortParts, parts_of}
-use Rattle.group_states.specs.States.{EntryForm, entries_of, entry_of}
+use Rattle.group_states.specs.States.{entries_of, entry_of}
+use Rattle.semantics.specs.GroupStates.{EntryForm}
 use Rattle.group_states.specs.declared.entry.GroupEntry.{GroupEntry}
 use Rattle.tables_groups.specs.declared.keyed.Keyed.{Keyed}
 use Rattle.tables_groups.specs.declared.packed_key.PackedKey.{PackedKey}

@@ -13,11 +13,11 @@ use Rattle.semantics.specs.Values.{Datum, value_order}
 use Rattle.semantics.specs.declared.function.ColumnFunction.{ColumnFunction}
 use Rattle.semantics.specs.declared.function.ColumnFunction.TheVariants as function
 use Rattle.query_resolve.specs.declared.function.FilteredFunction.{FilteredFunction}
-use Rattle.group_states.specs.Entries.{different_values, function_state}
-use Rattle.group_states.specs.Entries as over
-use Rattle.group_states.specs.States.{FunctionState, state_of, states_of}
+use Rattle.semantics.specs.GroupStates.{different_values, function_state, FunctionState}
+use Rattle.semantics.specs.GroupStates as over
+use Rattle.group_states.specs.States.{state_of, states_of}
 use Rattle.group_states.specs.declared.entry.State.{State}
-use Rattle.group_states.specs.States as state
+use Rattle.semantics.specs.GroupStates as state
 use Rattle.tables_groups.specs.declared.accumulator.Accumulator.{Accumulator}
 use Rattle.tables_groups.specs.Functions.{aggregate_of, aggregates_of}
 use Rattle.tables_groups.specs.Inside.Accumulator.{AccumulatorState, nothing, counted, summed, averaged, collected, lowest, highest, IsSumOf, IsWithin, accumulator_state, state_by, state_in}

@@ -7,8 +7,8 @@ use Rattle.semantics.specs.Groups.{Key, same_key}
 use Rattle.semantics.specs.declared.function.ColumnFunction.{ColumnFunction}
 use Rattle.semantics.specs.declared.function.ColumnFunction.TheVariants as function
 use Rattle.query_resolve.specs.declared.function.FilteredFunction.{FilteredFunction}
-use Rattle.group_states.specs.States.{EntryForm, FunctionState}
-use Rattle.group_states.specs.States as state
+use Rattle.semantics.specs.GroupStates.{EntryForm, FunctionState}
+use Rattle.semantics.specs.GroupStates as state
 use Rattle.tables_groups.specs.Inside.Entries.{AreStatesFor, HasFormBy, IsEntryFor, IsExtremeOf, IsTypedEntry, kept_group, kept_state, kept_states}
 use Rattle.tables_groups.specs.Inside.Group.{GroupState}
 use Rattle.tables_groups.specs.Inside.Table.{Contents}

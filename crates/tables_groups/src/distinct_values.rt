@@ -10,6 +10,7 @@ ghost use Rattle.tables_groups.specs.Inside.Values.{values_in};
 
 use crate::accumulator::is_present;
 use crate::copy::copy_of;
+use crate::hashing::FixedState;
 use crate::keyed::{Keyed, sort_keyed, things_of};
 use sort_keys::{SortKey, put_value};
 use std::alloc::{AllocError, Global};
@@ -22,7 +23,7 @@ use values::Value;
 /// They stand in a box, so that the accumulators of other set functions are small.
 #[derive(Drop)]
 pub(crate) struct DistinctValues {
-    values: Box<HashSet<Value>>,
+    values: Box<HashSet<Value, FixedState>>,
 }
 
 impl Model for DistinctValues {
@@ -49,7 +50,7 @@ impl DistinctValues {
     pub(crate) fn new(alloc: Global) -> Result<DistinctValues, AllocError>
         ensures { IfOk result (λ values. values ≡ set.empty) }
     {
-        let values = Box::new(alloc, HashSet::new(alloc))?;
+        let values = Box::new(alloc, HashSet::with_hasher(alloc, FixedState))?;
         Ok(DistinctValues { values })
     }
 
@@ -57,7 +58,7 @@ impl DistinctValues {
     pub(crate) fn of_values(alloc: Global, values: Vec<Value>) -> Result<DistinctValues, AllocError>
         ensures { IfOk result (λ set. set ≡ set_of (data_of values.items)) }
     {
-        let mut set = HashSet::new(alloc);
+        let mut set = HashSet::with_hasher(alloc, FixedState);
         for value in values {
             set.insert(value)?;
         }
@@ -115,7 +116,7 @@ impl DistinctValues {
 }
 
 /// Puts a copy of a value into a set that does not have it.
-fn insert_copy(values: &mut HashSet<Value>, value: &Value) -> Result<(), AllocError>
+fn insert_copy(values: &mut HashSet<Value, FixedState>, value: &Value) -> Result<(), AllocError>
     ensures { OnOk result (values_in values.new.keys
         ≡ set.insert (values_in values.old.keys) (datum_of value.now)) }
 {
@@ -128,7 +129,7 @@ fn insert_copy(values: &mut HashSet<Value>, value: &Value) -> Result<(), AllocEr
 }
 
 /// The values of a set, each beside its sort key.
-fn keyed_values(alloc: Global, values: HashSet<Value>) -> Result<Vec<Keyed<Value>>, AllocError>
+fn keyed_values(alloc: Global, values: HashSet<Value, FixedState>) -> Result<Vec<Keyed<Value>>, AllocError>
     ensures values { IfOk result (λ keyed.
         map keyed_value keyed.items ≡ map keyed_datum (data_of values.keys)) }
     ensures codable { OnOk result (AllByRecursion IsCodable (data_of values.keys)) }

@@ -8,7 +8,7 @@ ghost use Rattle.tables_groups.specs.Bags.{SameBag, weigh};
 ghost use Rattle.semantics.specs.Aggregates.{AggregateFunction};
 ghost use Rattle.query_resolve.specs.declared.function.FilteredFunction.{FilteredFunction};
 ghost use Rattle.semantics.specs.Columns.{Field};
-ghost use Rattle.group_states.specs.Entries.{entries_over};
+ghost use Rattle.semantics.specs.GroupStates.{entries_over};
 ghost use Rattle.tables_groups.specs.Functions.{aggregates_of};
 ghost use Rattle.tables_groups.specs.Inside.Entries.{table_entries};
 ghost use Rattle.tables_groups.specs.Inside.Table.{Contents, HasGroupsOfBoth, HasGroupsOfFiner, IsCounted, IsTableOf, IsTableUnder};

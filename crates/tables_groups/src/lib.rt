@@ -13,6 +13,7 @@ mod distinct_values;
 mod extreme;
 mod finishing;
 mod group;
+mod hashing;
 mod key;
 mod keyed;
 mod laws;

@@ -9,7 +9,7 @@ ghost use Rattle.sort_keys.proofs.Decoding.{KeyOf-prop};
 
 use sort_keys::{put_value, put_values, split_code, values_of};
 use std::alloc::{AllocError, Global};
-use std::hash::{BuildHasher, DefaultHasher, Hash, Hasher};
+use std::hash::{Hash, Hasher};
 use values::Value;
 
 /// A key of a table: the codes of its values, one after the other. No two keys have one code, so that keys are hashed and
@@ -33,26 +33,6 @@ impl Hash for PackedKey {
 
     fn hash<H: Hasher>(&self, state: &mut H) {
         state.write(self.code.as_slice());
-    }
-}
-
-/// Makes the hasher of a map's keys: SipHash-1-3 with the keys 0, as `DefaultHasher::new()` is. The seed is fixed, but no
-/// bytes of a key make this hash forget those before them.
-///
-/// It is a type of its own since the first state of `BuildHasherDefault` is read from the map, where the compiler does not
-/// know it.
-#[derive(Clone, Copy)]
-pub(crate) struct FixedState;
-
-impl BuildHasher for FixedState {
-    ghost use Rattle.std.specs.Hash.DefaultHasher.{initial};
-
-    type Hasher = DefaultHasher;
-
-    ghost build_hasher = { λ _. initial };
-
-    fn build_hasher(&self) -> DefaultHasher {
-        DefaultHasher::new()
     }
 }
 

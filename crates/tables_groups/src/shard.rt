@@ -7,7 +7,8 @@ ghost use Rattle.std.specs.Map.{keys_of};
 ghost use Rattle.tables_groups.specs.Inside.Keys.{key_eq};
 
 use crate::accumulators::Accumulators;
-use crate::packed_key::{FixedState, PackedKey};
+use crate::hashing::FixedState;
+use crate::packed_key::PackedKey;
 use crate::part::Part;
 use query_resolve::FilteredFunction;
 use std::alloc::{AllocError, Global};

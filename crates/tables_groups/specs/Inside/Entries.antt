@@ -12,9 +12,8 @@ use Rattle.semantics.specs.Values.{Datum, value_order}
 use Rattle.semantics.specs.declared.function.ColumnFunction.{ColumnFunction}
 use Rattle.semantics.specs.declared.function.ColumnFunction.TheVariants as function
 use Rattle.query_resolve.specs.declared.function.FilteredFunction.{FilteredFunction}
-use Rattle.group_states.specs.Entries.{different_values}
-use Rattle.group_states.specs.States.{EntryForm, FunctionState}
-use Rattle.group_states.specs.States as state
+use Rattle.semantics.specs.GroupStates.{different_values, EntryForm, FunctionState}
+use Rattle.semantics.specs.GroupStates as state
 use Rattle.tables_groups.specs.Fitting.{IsHeld}
 use Rattle.tables_groups.specs.Inside.Accumulator.{AccumulatorState, nothing, counted, summed, averaged, collected, lowest, highest, IsSumOf}
 use Rattle.tables_groups.specs.Inside.Group.{GroupState}

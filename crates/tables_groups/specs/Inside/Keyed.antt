@@ -3,7 +3,8 @@ use Rattle.std.specs.Prelude.{ℕ, Bool, List, [], ◌∷◌, ◌++◌}
 use Rattle.std.specs.Ordering.{is_lt}
 use Rattle.semantics.specs.Groups.{Key}
 use Rattle.semantics.specs.Values.{Datum}
-use Rattle.group_states.specs.States.{EntryForm, entry_of}
+use Rattle.group_states.specs.States.{entry_of}
+use Rattle.semantics.specs.GroupStates.{EntryForm}
 use Rattle.group_states.specs.declared.entry.GroupEntry.{GroupEntry}
 use Rattle.sort_keys.specs.Codes.{value_code, values_code}
 use Rattle.sort_keys.specs.SortKeys.{SortParts, key_parts, parts_of, parts_order}

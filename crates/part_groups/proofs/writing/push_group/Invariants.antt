@@ -1,7 +1,6 @@
 use Rattle.std.proofs.Common.{◌≡◌, ◌++◌, take}
 use Rattle.std.specs.List.{flat_map}
-use Rattle.part_text.specs.Texts.{text_of}
-use Rattle.part_groups.specs.Groups.{state_values}
+use Rattle.semantics.specs.Parts.{text_of, state_values}
 use Rattle.group_states.specs.States.{states_of}
 use Rattle.part_groups.proofs.writing.push_group.Given as goal
 

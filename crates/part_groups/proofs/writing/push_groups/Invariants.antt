@@ -1,6 +1,5 @@
 use Rattle.std.proofs.Common.{◌≡◌, ◌++◌, take}
-use Rattle.part_text.specs.Texts.{text_of}
-use Rattle.part_groups.specs.Groups.{groups_values}
+use Rattle.semantics.specs.Parts.{text_of, groups_values}
 use Rattle.group_states.specs.States.{entries_of}
 use Rattle.part_groups.proofs.writing.push_groups.Given as goal
 

@@ -1,6 +1,6 @@
 use Rattle.std.proofs.Common.{◌≡◌, ◌++◌, take}
 use Rattle.values.specs.Datum.{data_of}
-use Rattle.part_text.specs.Texts.{text_of}
+use Rattle.semantics.specs.Parts.{text_of}
 use Rattle.part_groups.proofs.writing.push_values.Given as goal
 
 abbrev pub invariant-loop-value : goal.invariant-loop-value

@@ -2,7 +2,7 @@ use Rattle.std.specs.List.{flat_map}
 use Rattle.std.specs.Prelude.{codes, string_bytes}
 use Rattle.std.proofs.Common.{◌≡◌, ◌++◌, map, take}
 use Rattle.values.specs.Schema.{fields_of}
-use Rattle.parts.specs.Parts.{column_text}
+use Rattle.semantics.specs.Parts.{column_text}
 use Rattle.parts.proofs.columns.push_columns.Given as goal
 
 abbrev pub invariant-loop-column : goal.invariant-loop-column

@@ -1,8 +1,8 @@
 use Rattle.std.proofs.Common.{◌++◌, ◌∷◌, [], None, ap, option_map, arith, length-append}
 use Rattle.std.proofs.lemmas.Result.{err_from_is_err_and}
 use Rattle.group_states.specs.States.{entry_of}
-use Rattle.part_groups.specs.Groups.{groups_values, shape_of}
-use Rattle.part_text.specs.Texts.{text_of}
+use Rattle.part_groups.specs.Groups.{shape_of}
+use Rattle.semantics.specs.Parts.{groups_values, text_of}
 use Rattle.part_groups.specs.Reading.{groups_at}
 use Rattle.part_groups.proofs.Loop.{groups_are_done, groups_end, groups_go_on}
 use Rattle.parts.specs.Gathering.{groups_of, key_of}

@@ -1,8 +1,8 @@
 use Rattle.std.proofs.Common.{◌≡◌, ◌++◌, ◌-◌, ℕ, List, None, length, option_map}
-use Rattle.part_groups.specs.Groups.{groups_values, shape_of}
+use Rattle.part_groups.specs.Groups.{shape_of}
+use Rattle.semantics.specs.Parts.{groups_values, text_of}
 use Rattle.part_groups.specs.Reading.{groups_at}
 use Rattle.part_groups.proofs.Loop.{with_front}
-use Rattle.part_text.specs.Texts.{text_of}
 use Rattle.sha2.specs.Hashers.{Holds256}
 use Rattle.tables.specs.Contents.{DiffersInGroups}
 use Rattle.parts.specs.Gathering.{IsGathering, groups_of, key_of}

@@ -1,6 +1,6 @@
 use Rattle.std.proofs.Common.{length, string_bytes}
 use Rattle.values.specs.Schema.{fields_of}
-use Rattle.parts.specs.Parts.{header_of, number, refused_values}
+use Rattle.semantics.specs.Parts.{header_of, number, refused_values}
 use Rattle.parts.proofs.Joined.{text-front}
 use Rattle.parts.proofs.writing.front_text.Goals as goal
 

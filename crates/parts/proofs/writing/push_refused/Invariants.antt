@@ -1,7 +1,6 @@
 use Rattle.std.proofs.Common.{◌≡◌, ◌++◌, take}
 use Rattle.values.specs.Schema.{fields_of}
-use Rattle.part_text.specs.Texts.{text_of}
-use Rattle.parts.specs.Parts.{refused_values}
+use Rattle.semantics.specs.Parts.{text_of, refused_values}
 use Rattle.parts.proofs.writing.push_refused.Given as goal
 
 abbrev pub invariant-loop-number : goal.invariant-loop-number

@@ -1,5 +1,5 @@
 use Rattle.std.proofs.Common.{List, [], ◌∷◌, ap, refl, subst, sym, ◌∙◌, append-nil, length}
-use Rattle.group_states.specs.Entries.{entries_over}
+use Rattle.semantics.specs.GroupStates.{entries_over}
 use Rattle.query_resolve.specs.Functions.{indexed_functions}
 use Rattle.semantics.specs.Aggregates.{AggregateFunction}
 use Rattle.semantics.specs.Conditions.{kept_records}

@@ -1,5 +1,5 @@
 use Rattle.std.proofs.Common.{List, ap, subst, sym, ◌∙◌, arith}
-use Rattle.group_states.specs.Entries.{entries_over}
+use Rattle.semantics.specs.GroupStates.{entries_over}
 use Rattle.semantics.specs.Conditions.{kept_records}
 use Rattle.semantics.specs.Found.{aggregate_functions}
 use Rattle.semantics.specs.Groups.{Row}

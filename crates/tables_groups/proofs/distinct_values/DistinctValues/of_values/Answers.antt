@@ -9,7 +9,7 @@ use Rattle.tables_groups.proofs.distinct_values.DistinctValues.of_values.Goals a
 pub loop-value-init : goal.loop-value-init
 loop-value-init c =
     let left = values_in c.into_iter-value-iterator.result.rest.items in
-    ap (λ vs. set.union (values_in vs) left) c.new-set.ensures.empty
+    ap (λ vs. set.union (values_in vs) left) c.with_hasher-set.ensures.empty
     ∙ union-flip (set_of []) left
     ∙ union-empty left
     ∙ ap values_in c.into_iter-value-iterator.ensures.into_iter_gives.0

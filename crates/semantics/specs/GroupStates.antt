@@ -1,6 +1,6 @@
 -- What is kept of the groups of a list of records: the partial aggregates from which the values of the
 -- set functions come (ISO/IEC 9075-2, <group by clause>, <aggregate function>).
-use Rattle.std.specs.Prelude.{ℕ, Bool, List, filter, length, map, Option, Some, None}
+use Rattle.std.specs.Prelude.{ℕ, ℤ, Bool, List, filter, length, map, Option, Some, None}
 use Rattle.semantics.specs.Aggregates.{AggregateFunction, column_numbers, column_values, greatest, least, same_value, total}
 use Rattle.semantics.specs.Groups.{Key, Row, key_order, keys, members}
 use Rattle.semantics.specs.Names.{distinct}
@@ -8,7 +8,21 @@ use Rattle.semantics.specs.Order.{in_order}
 use Rattle.semantics.specs.Values.{Datum, value_order}
 use Rattle.semantics.specs.declared.function.ColumnFunction.{ColumnFunction}
 use Rattle.semantics.specs.declared.function.ColumnFunction.TheVariants as function
-use Rattle.group_states.specs.States.{EntryForm, FunctionState, rows, counted, summed, extreme, collected}
+
+-- The state of a set function over the members of a group: nothing where it is their number, a count, a
+-- sum and how many numbers were added, the least or the greatest value, or the different values.
+pub data FunctionState : Type 0 where
+  rows : FunctionState
+  counted : ℕ → FunctionState
+  summed : ℤ → ℕ → FunctionState
+  extreme : Datum → FunctionState
+  collected : List Datum → FunctionState
+
+-- A group: its key, how many members it has, and the state of each set function over them.
+pub record EntryForm : Type 0 where
+  pub key : Key
+  pub members : ℕ
+  pub states : List FunctionState
 
 -- The values of a list without repeats, ascending.
 abbrev pub different_values : List Datum → List Datum

@@ -1,20 +1,66 @@
 -- The text of a part: the partial result of a query over an input, one value a line.
+use Rattle.std.specs.Fmt.{signed_decimal}
 use Rattle.std.specs.List.{flat_map}
-use Rattle.std.specs.Prelude.{◌==◌, ℕ, pos, List, [], ◌∷◌, ◌++◌, codes, length, map, if◌then◌else◌}
+use Rattle.std.specs.Prelude.{◌==◌, ℕ, pos, true, false, List, [], ◌∷◌, ◌++◌, codes, length, map, if◌then◌else◌}
+use Rattle.json.specs.Print.{quoted}
 use Rattle.hex.specs.Hex.{encode_lower}
 use Rattle.sha2.specs.Sha256.{sha256}
 use Rattle.semantics.specs.Canonical.{canonical_text, separated_texts}
 use Rattle.semantics.specs.Columns.{Field}
-use Rattle.semantics.specs.Lines.{line_feed}
+use Rattle.semantics.specs.Conditions.{kept_records}
+use Rattle.semantics.specs.Found.{aggregate_functions}
+use Rattle.semantics.specs.GroupStates.{EntryForm, FunctionState, rows, counted, summed, extreme, collected, entries_over}
+use Rattle.semantics.specs.Lines.{line_feed, lines}
+use Rattle.semantics.specs.Records.{refused_lines, valid_records}
+use Rattle.semantics.specs.Sets.{grouping_places}
 use Rattle.semantics.specs.Syntax.{TreeForm}
 use Rattle.semantics.specs.Texts.{fault_text}
-use Rattle.semantics.specs.Values.{Datum, whole, text}
+use Rattle.semantics.specs.Values.{Datum, boolean, whole, text, null}
 use Rattle.semantics.specs.declared.kind.Kind.{Kind}
 use Rattle.semantics.specs.declared.kind.Kind.TheVariants as kind
 use Rattle.semantics.specs.declared.line_fault.LineFault.{LineFault}
-use Rattle.part_text.specs.Texts.{line_of, text_of}
-use Rattle.part_groups.specs.Groups.{groups_values}
-use Rattle.tables.specs.Contents.{ContentsForm, contents_over}
+
+-- ---- values as JSON texts (RFC 8259), each on a line of its own
+
+-- Truth values and NULL are the literal names of JSON (section 3). A whole number is its digits, with a
+-- minus in front of a number below 0 (section 6). A text is a string with the shortest escapes
+-- (section 7).
+abbrev pub value_text : Datum → List ℕ
+value_text (boolean true) = codes "true"
+value_text (boolean false) = codes "false"
+value_text (whole n) = signed_decimal n
+value_text (text s) = quoted s
+value_text null = codes "null"
+
+-- The line of a value: its text and a line feed.
+abbrev pub line_of : Datum → List ℕ
+line_of d = value_text d ++ line_feed ∷ []
+
+-- The lines of values, one behind the other.
+abbrev pub text_of : List Datum → List ℕ
+text_of values = flat_map line_of values
+
+-- ---- groups as values
+
+-- A count is a whole number.
+abbrev pub count_values : ℕ → List Datum
+count_values n = whole (pos n) ∷ []
+
+-- Of different values their number comes first.
+abbrev pub state_values : FunctionState → List Datum
+state_values rows = []
+state_values (counted n) = count_values n
+state_values (summed s n) = whole s ∷ count_values n
+state_values (extreme d) = d ∷ []
+state_values (collected ds) = whole (pos (length ds)) ∷ ds
+
+-- A group is its key, the number of its members and the states.
+abbrev pub group_values : EntryForm → List Datum
+group_values g = g.key ++ whole (pos g.members) ∷ flat_map state_values g.states
+
+-- Groups, one behind the other.
+abbrev pub groups_values : List EntryForm → List Datum
+groups_values gs = flat_map group_values gs
 
 -- ---- the first lines
 
@@ -41,6 +87,22 @@ abbrev pub header_of : (columns query : List ℕ) → List Datum
 header_of columns query = text mark ∷ text columns ∷ text query ∷ []
 
 -- ---- the partial result
+
+-- What a part says of an input: the number of all lines, the refused lines by their numbers, and the
+-- groups of the records, by ascending keys.
+pub record ContentsForm : Type 0 where
+  pub lines : ℕ
+  pub refused : List (ℕ × LineFault)
+  pub groups : List EntryForm
+
+-- Those of an input under columns and a query: the groups are those of all grouping columns over the
+-- valid records that WHERE keeps.
+abbrev pub contents_over : List Field → TreeForm → List ℕ → ContentsForm
+contents_over fields q input = record {
+  lines = length (lines input);
+  refused = refused_lines fields input;
+  groups = entries_over (grouping_places fields q) (aggregate_functions fields q) (kept_records fields q (valid_records fields input));
+}
 
 -- A number of things is a whole number.
 abbrev pub number : ℕ → Datum
@@ -87,13 +149,9 @@ checksum bytes = text (encode_lower (sha256 bytes))
 abbrev pub with_checksum : List ℕ → List ℕ
 with_checksum bytes = bytes ++ line_of (checksum bytes)
 
--- The part of these contents.
-abbrev pub text_with : List Field → TreeForm → ContentsForm → List ℕ
-text_with fields q contents = with_checksum (text_of (values_with fields q contents))
-
 -- The part of an input, under columns and a query.
 abbrev pub part_text : List Field → TreeForm → List ℕ → List ℕ
-part_text fields q input = text_with fields q (contents_over fields q input)
+part_text fields q input = with_checksum (text_of (part_values fields q input))
 
 -- ---- inputs, one behind the other
 
