@@ -60,6 +60,31 @@ words_for_explanation-file : value_of (codes "file") words_for_explanation ≡ S
 unfolding clap_on_literals
 words_for_explanation-file = refl
 
+-- words that ask for a join to one part
+abbrev words_for_join : List Text
+words_for_join = codes "jlreport" ∷ codes "--columns=a" ∷ codes "--join" ∷ codes "--query=b" ∷ codes "f" ∷ codes "--partial" ∷ []
+
+words_for_join-fault : fault_of command words_for_join ≡ []
+unfolding clap_on_literals
+words_for_join-fault = refl
+
+words_for_join-partial : IsSet (codes "partial") words_for_join
+unfolding clap_on_literals
+words_for_join-partial = refl
+
+words_for_join-join : IsSet (codes "join") words_for_join
+unfolding clap_on_literals
+words_for_join-join = refl
+
+-- the flags are `false` where they are not given
+words-partial : value_of (codes "partial") words ≡ Some (codes "false")
+unfolding clap_on_literals
+words-partial = refl
+
+words-join : value_of (codes "join") words ≡ Some (codes "false")
+unfolding clap_on_literals
+words-join = refl
+
 -- the file has to be given also there
 explained_nothing-fault : fault_of command (codes "jlreport" ∷ codes "--explain" ∷ codes "--columns=a" ∷ codes "--query=b" ∷ []) ≡ MissingRequiredArgument ∷ []
 unfolding clap_on_literals

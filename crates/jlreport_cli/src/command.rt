@@ -42,13 +42,20 @@ const MAX_REFUSED_HELP: &str =
 const EXPLAIN_HELP: &str =
     "Print the query in its canonical form and its grouping sets, and read no file";
 
+/// What help says of the flag that asks for a part.
+const PARTIAL_HELP: &str =
+    "Print the part, which can be joined with others, in place of the report";
+
+/// What help says of the flag that joins parts.
+const JOIN_HELP: &str = "Read parts, one behind the other, in place of lines";
+
 /// What help says of the file.
-const FILE_HELP: &str = "The file to read, with one JSON object on each line";
+const FILE_HELP: &str = "The file to read, with one JSON object on each line, or parts";
 
 /// What stands at the end of the help that `-h` shows.
 const SUMMARY: &str =
     "The report goes to standard output, as CSV in which \\N is NULL; the refused lines go to standard
-error. The status is 0, or 1 where lines were refused; 2 to 5 say what went wrong.
+error. The status is 0, or 1 where lines were refused; 2 to 6 say what went wrong.
 
 Example:
   jlreport --columns shop:text,cents:int --query 'SELECT shop, SUM(cents) AS cents
@@ -86,13 +93,20 @@ Output:
   fit its column. With --explain there is no report: standard output has the query on a line, and
   then a line for each grouping set, as its number from 0 and its columns.
 
+Parts:
+  With --partial standard output has the part of the lines in place of the report: their groups and
+  their refused lines, as a text. With --join the file has parts of the same columns and query, one
+  behind the other, and the report is that of all their lines. With both, parts are joined to one.
+
 Exit status:
-  0  there is a report, and no line is refused; or an explanation, help or the version was asked for
+  0  there is a report, and no line is refused; or there is a part; or an explanation, help or the
+     version was asked for
   1  there is a report, and some lines are refused
   2  the words, the columns or the query are refused
   3  the file cannot be opened or read, or the output cannot be written
   4  memory ran out, or a thread could not be started
-  5  more lines are refused than may be, and there is no report
+  5  more lines are refused than may be, and there is no report or part
+  6  what was read with --join is no part, is broken, or is of other columns or another query
 
 Examples:
   jlreport --columns shop:text,cents:int --query \\
@@ -100,6 +114,8 @@ Examples:
   jlreport --columns shop:text,member:bool --query \\
     'SELECT shop, COUNT(*) AS n FROM lines WHERE member GROUP BY shop HAVING COUNT(*) > 5
      ORDER BY n DESC' examples/events.jsonl
+  cat part.* | jlreport --columns shop:text,cents:int --query \\
+    'SELECT shop, SUM(cents) FROM lines GROUP BY ROLLUP (shop)' --join /dev/stdin
 
 Read on:
   man jlreport. These pages stand in docs/ of the sources, and where the program is installed as
@@ -135,6 +151,8 @@ fn program_command<'a>(alloc: Global) -> Result<Command<'a>, Error>
         defaulted_option(alloc, "piece", "BYTES", "1048576", PIECE_HELP),
         number_option(alloc, "max-refused", "N", MAX_REFUSED_HELP),
         flag(alloc, "explain", EXPLAIN_HELP),
+        flag(alloc, "partial", PARTIAL_HELP),
+        flag(alloc, "join", JOIN_HELP),
         required_word(alloc, "file", "FILE", FILE_HELP),
     ];
     let mut command = described_command(alloc);
@@ -199,6 +217,10 @@ pub fn settings<'a>(alloc: Global, words: &'a [&'a str]) -> Result<Settings<'a>,
         IsNumberOf (codes "workers") (texts words.now) (Some s.options.workers)) }
     ensures explain { IfOk result (λ s. (s.explain ≡ true)
         ↔ IsSet (codes "explain") (texts words.now)) }
+    ensures partial { IfOk result (λ s. (s.partial ≡ true)
+        ↔ IsSet (codes "partial") (texts words.now)) }
+    ensures join { IfOk result (λ s. (s.join ≡ true)
+        ↔ IsSet (codes "join") (texts words.now)) }
     ensures taken { IfOk result (λ _. fault_of command (texts words.now) ≡ []) }
     ensures refused { IfErr result (IsRefusalOf (texts words.now)) }
 {
@@ -213,5 +235,7 @@ pub fn settings<'a>(alloc: Global, words: &'a [&'a str]) -> Result<Settings<'a>,
         file: text_of(&matches, "file"),
         options,
         explain: is_set(&matches, "explain"),
+        partial: is_set(&matches, "partial"),
+        join: is_set(&matches, "join"),
     })
 }

@@ -5,8 +5,8 @@ use crate::options::Options;
 /// What a run of the program is asked for. The texts are those of the words, and are not copied.
 ///
 /// Example: of `jlreport --columns q:int --query 'SELECT SUM(q) FROM lines' lines.jsonl`, `columns`
-/// is `q:int`, `query` is `SELECT SUM(q) FROM lines`, `file` is `lines.jsonl` and `explain` is
-/// `false`.
+/// is `q:int`, `query` is `SELECT SUM(q) FROM lines`, `file` is `lines.jsonl`, and `explain`, `partial`
+/// and `join` are `false`.
 #[derive(Clone, Copy, Debug, PartialEq, Eq)]
 pub struct Settings<'a> {
     /// The text of the columns, not read yet: `name:type` parts joined by commas, where it is good.
@@ -19,4 +19,8 @@ pub struct Settings<'a> {
     pub options: Options,
     /// Whether the query is to be explained, and no file read.
     pub explain: bool,
+    /// Whether a part is to be written in place of the report.
+    pub partial: bool,
+    /// Whether the file has parts, one behind the other, in place of lines.
+    pub join: bool,
 }
