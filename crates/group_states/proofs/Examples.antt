@@ -1,12 +1,12 @@
 -- The definitions, computed on worked examples.
-use Rattle.std.proofs.Common.{◌≡◌, ℤ, pos, negsuc, Bool, true, false, List, [], ◌∷◌, Option, Some, None, refl}
+use Rattle.std.proofs.Common.{◌≡◌, pos, negsuc, true, false, List, [], ◌∷◌, Some, None, refl}
 use Rattle.std.specs.Prelude.{codes}
 use Rattle.semantics.specs.Aggregates.{AggregateFunction}
 use Rattle.semantics.specs.Groups.{Row, value_at}
-use Rattle.semantics.specs.Values.{Datum, boolean, whole, text, null, is_null}
+use Rattle.semantics.specs.Values.{boolean, whole, text, null}
 use Rattle.semantics.specs.declared.function.ColumnFunction.{ColumnFunction}
 use Rattle.semantics.specs.declared.function.ColumnFunction.TheVariants as function
-use Rattle.semantics.specs.GroupStates.{EntryForm, FunctionState, rows, counted, summed, extreme, collected, entries_over}
+use Rattle.semantics.specs.GroupStates.{rows, counted, summed, extreme, collected, entries_over}
 
 -- Some sales: a shop, an amount, and whether a member bought.
 abbrev sales : List Row

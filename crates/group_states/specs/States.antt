@@ -1,7 +1,6 @@
 -- What is kept of a group, apart from where it lies in memory.
-use Rattle.std.specs.Prelude.{ℕ, ℤ, List, map}
-use Rattle.semantics.specs.Groups.{Key}
-use Rattle.semantics.specs.Values.{Datum}
+use Rattle.std.specs.Prelude.{List, map}
+use Rattle.semantics.specs.GroupStates.{EntryForm, FunctionState, rows, counted, summed, extreme, collected}
 use Rattle.values.specs.Datum.{data_of, datum_of}
 use Rattle.group_states.specs.declared.entry.GroupEntry.{GroupEntry}
 use Rattle.group_states.specs.declared.entry.State.{State}

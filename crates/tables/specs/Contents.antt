@@ -1,14 +1,9 @@
 -- What a partial result contains, as plain values.
 use Rattle.std.specs.Prelude.{◌≡◌, ◌≤◌, ◌+◌, ℕ, List, [], ◌∷◌, ◌++◌, length}
-use Rattle.semantics.specs.Columns.{Field}
-use Rattle.semantics.specs.Conditions.{kept_records}
-use Rattle.semantics.specs.Found.{aggregate_functions}
-use Rattle.semantics.specs.Lines.{lines}
-use Rattle.semantics.specs.Records.{refused_lines, valid_records}
 use Rattle.semantics.specs.Sets.{grouping_places}
-use Rattle.semantics.specs.Syntax.{TreeForm}
 use Rattle.semantics.specs.declared.line_fault.LineFault.{LineFault}
-use Rattle.semantics.specs.GroupStates.{entries_over, EntryForm}
+use Rattle.semantics.specs.GroupStates.{EntryForm}
+use Rattle.semantics.specs.Parts.{ContentsForm}
 use Rattle.group_states.specs.States.{entries_of}
 use Rattle.query_plan.specs.Planned.{PlannedQuery}
 use Rattle.query_resolve.specs.Functions.{indexed_functions}
