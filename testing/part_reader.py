@@ -140,3 +140,12 @@ def read_parts(query, data):
         before += found[-1].lines
         reader.part += 1
     return found
+
+
+def fault_of(query, data):
+    """The first fault of parts, and None where they have none."""
+    try:
+        read_parts(query, data)
+    except Fault as fault:
+        return str(fault)
+    return None
