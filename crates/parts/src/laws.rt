@@ -1,21 +1,20 @@
-//! What parts of parts come to, with no work to do.
+//! What joins of joins come to, with no work to do.
 ghost use Rattle.std.specs.Prelude.{◌≡◌, [], ◌∷◌, ◌++◌, ℕ, List, map};
 ghost use Rattle.std.specs.List.{flat_map};
 ghost use Rattle.semantics.specs.Columns.{Field};
 ghost use Rattle.semantics.specs.Parts.{closed, concatenated, part_text};
 ghost use Rattle.semantics.specs.Syntax.{TreeForm};
 
-/// What makes trees of joins right. `concatenated` puts inputs one behind the other, so that each begins on a line of its own;
-/// where the parts of inputs are joined to one part, it is that of these inputs, concatenated. What was concatenated from
-/// inputs that were concatenated before is all of them, concatenated, in order. A part does not tell whether its input lacks
-/// the last line feed. And where the first of two halves of an input is whole lines, the part of the two, concatenated, is
-/// that of the input.
+/// What makes trees of joins right, where the join of parts is the part of their inputs, one behind the other, each from a
+/// line of its own on (`concatenated`). The join of joins is the join of all their parts, in order. A part does not tell
+/// whether its input lacks the last line feed. And of an input whose first half is whole lines, the part is the join of the
+/// parts of its two halves.
 ///
-/// So `part(a ++ b) = join(part(a), part(b))` where `a` is whole lines, and parts of any number of inputs may be joined in
-/// any groups of neighbours, and the parts that come of it again.
+/// So `part(a ++ b) = join(part(a), part(b))` where `a` is whole lines, and the same holds of any number of inputs, with the
+/// parts of any neighbours joined first.
 ///
-/// Example: of the inputs `a`, `b` and `c`, a line each without its line feed, the first two, concatenated, and then the third
-/// one come to the lines `a`, `b` and `c`. So do the first one and then the other two, concatenated.
+/// Example: of three inputs `a`, `b` and `c`, a line each without its line feed, the join of their parts is the part of the
+/// lines `a`, `b` and `c`, whether the first two are joined first, or the last two.
 pub fn parts_law()
     ensures joins { (trees : List (List (List ℕ)))
         → concatenated (map concatenated trees) ≡ concatenated (flat_map (λ inputs. inputs) trees) }
