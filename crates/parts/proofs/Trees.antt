@@ -1,11 +1,11 @@
 -- Joins of joins, and of the two halves of an input.
-use Rattle.std.proofs.Common.{◌≡◌, List, [], ◌∷◌, ◌++◌, inl, inr, map, refl, sym, ap, ◌∙◌, append-nil, ℕ}
+use Rattle.std.proofs.Common.{◌≡◌, ℕ, List, [], ◌∷◌, ◌++◌, inl, inr, map, refl, sym, ap, ◌∙◌, append-nil}
 use Rattle.std.proofs.lemmas.Grind.{flat_map-append}
 use Rattle.std.specs.List.{flat_map}
 use Rattle.lines.specs.Pieces.{AreWholeLines}
 use Rattle.semantics.specs.Columns.{Field}
 use Rattle.semantics.specs.Lines.{line_feed}
-use Rattle.semantics.specs.Parts.{closed, concatenated, contents_over, part_text, text_of, values_with, with_checksum}
+use Rattle.semantics.specs.Parts.{closed, concatenated, part_text, text_of, values_with, with_checksum}
 use Rattle.semantics.specs.Syntax.{TreeForm}
 use Rattle.parts.proofs.Closing.{closed-contents, concatenated-whole}
 
