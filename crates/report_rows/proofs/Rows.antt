@@ -84,7 +84,7 @@ first-values fields t x y (suc count) (k ∷ ks) =
     (first-values fields t x y count ks ∙ sym (later 0 (take count ks) (key_value fields t x k) (key_value fields t y k) xs ys))
 
 -- the code beside the row is its own, which tells it from others, and the row fits
-record IsRight (count : ℕ) (fields : List Field) (t : TreeForm) (r : EntryForm) : Type 0 where
+pub record IsRight (count : ℕ) (fields : List Field) (t : TreeForm) (r : EntryForm) : Type 0 where
   code : r.0 ≡ (entry_of count fields t r.1).0
   fits : HasKeyOf fields t r.1
   codable : IsCodableRow (take count t.keys) (key_values fields t r.1) r.1
