@@ -27,7 +27,7 @@ use Rattle.report_rows.specs.Inside.SortEntries.{AreEnough, HasKeyOf, are_defaul
 use Rattle.report_rows.proofs.Maps.{map-twice}
 use Rattle.report_rows.proofs.RowCodes.{by_key, under_values}
 use Rattle.report_rows.proofs.Rows.{later, same-length, same-order}
-use Rattle.report_rows.proofs.Sources.{each-at, values-keys}
+use Rattle.report_rows.proofs.Sources.{each-at, key-sources-count, values-keys}
 
 -- ---- tests that hold
 
@@ -166,9 +166,11 @@ values-behind plan all count x each fit first =
     ∙ drop-map value count plan.query.keys
 
 -- with one grouping set there are as many sources as keys
-pub sources-long : (plan : PlannedQuery) (all : List (Vec Source)) → AreKeySources plan all → length (sets_of plan.fields plan.query) ≡ 1 → length (sources_at all 0) ≡ length plan.query.keys
-sources-long plan all each one =
+pub sources-long : (plan : PlannedQuery) (all : List (Vec Source)) → AreKeySources plan all → length all ≡ 1 → length (sources_at all 0) ≡ length plan.query.keys
+sources-long plan all each single =
     let sets = sets_of plan.fields plan.query in
+    let sets_are = key-sources-count plan all each in
+    let one : length sets ≡ 1 = omega (arith, single, sets_are) in
     let set = get_or sets 0 [] in
     let shown = expression_shown plan.fields plan.query set [] [] in
     sym (length-map (sources_at all 0) (shown_at [] []))
@@ -177,18 +179,19 @@ sources-long plan all each one =
     ∙ length-map plan.query.keys (λ (k : KeyForm). key_expression plan.query.items k.expression)
 
 -- with one grouping set the keys in front of those that begin the default order are enough
-pub enough-keys : (plan : PlannedQuery) (all : List (Vec Source)) (count : ℕ) → AreKeySources plan all → length (sets_of plan.fields plan.query) ≡ 1
+pub enough-keys : (plan : PlannedQuery) (all : List (Vec Source)) (count : ℕ) → AreKeySources plan all → length all ≡ 1
     → are_default_behind count plan.query.keys (sources_at all 0) ≡ true → AreEnough count plan.fields plan.query
-enough-keys plan all count each one e x y fx fy =
+enough-keys plan all count each single e x y fx fy =
     let fields = plan.fields in
     let t = plan.query in
+    let sets_are = key-sources-count plan all each in
     let first = under_keys fields t (take count t.keys) x y in
     let behind = drop count t.keys in
     let sources = drop count (sources_at all 0) in
     let within_x = fx.0 in
     let within_y = fy.0 in
-    let at_x : x.0 ≡ 0 = omega (arith, within_x, one) in
-    let at_y : y.0 ≡ 0 = omega (arith, within_y, one) in
+    let at_x : x.0 ≡ 0 = omega (arith, within_x, single, sets_are) in
+    let at_y : y.0 ≡ 0 = omega (arith, within_y, single, sets_are) in
     let tied : nat_cmp x.0 y.0 ≡ Equal = λ i. nat_cmp (at_x i) (at_y i) in
     let keys = slice_cmp value_order x.1.key y.1.key in
     let by_keys : by_key x y ≡ keys = λ i. ordering_then (tied i) keys in
