@@ -1,5 +1,5 @@
 -- Keys of ORDER BY that are left out of the codes.
-use Rattle.std.proofs.Common.{◌≡◌, ◌≢◌, ◌∙◌, ◌+◌, ◌-◌, ◌<◌, ◌==◌, ℕ, zero, suc, Bool, true, false, ◌&&◌, not, cond, List, [], ◌∷◌, drop, length, map, get_or, slice_index_or, take, refl, sym, ap, take_all, arith, ⊎_elim}
+use Rattle.std.proofs.Common.{◌≡◌, ◌≢◌, ◌∙◌, ◌+◌, ◌-◌, ◌<◌, ◌==◌, ℕ, zero, suc, Bool, true, false, ◌&&◌, not, List, [], ◌∷◌, drop, length, map, get_or, slice_index_or, take, refl, sym, ap, take_all, arith, ⊎_elim}
 use Rattle.std.specs.Global.{Vec}
 use Rattle.std.specs.List.{AllByRecursion}
 use Rattle.std.specs.declared.cmp.Ordering.{Ordering}
@@ -11,19 +11,19 @@ use Rattle.std.proofs.lemmas.List.{drop-map, length-drop, length-map}
 use Rattle.std.proofs.lemmas.Bool.{cases_eq}
 use Rattle.query_ast.specs.Syntax.{key_form}
 use Rattle.query_ast.specs.declared.tree.Key.{Key}
-use Rattle.semantics.specs.Values.{Datum, boolean, whole, text, null, is_null, value_order}
+use Rattle.semantics.specs.Values.{Datum, boolean, whole, text, null, value_order}
 use Rattle.semantics.specs.Columns.{Field}
 use Rattle.semantics.specs.Syntax.{KeyForm, TreeForm}
 use Rattle.semantics.specs.Sets.{sets_of}
 use Rattle.semantics.specs.Found.{Found}
 use Rattle.semantics.specs.Rows.{cell_value, expression_shown}
 use Rattle.semantics.specs.Types.{key_expression}
-use Rattle.semantics.specs.Order.{before, key_value, null_order, under_key, under_keys}
+use Rattle.semantics.specs.Order.{key_value, null_order, under_key, under_keys}
 use Rattle.query_plan.specs.Planned.{PlannedQuery}
 use Rattle.report_rows.specs.declared.source.Source.{Source}
 use Rattle.report_rows.specs.declared.source.Source.TheVariants.{KeyAt, CellAt, Always}
 use Rattle.report_rows.specs.Sources.{AreKeySources, AreSourcesFor, key_expressions, shown_at, sources_at}
-use Rattle.report_rows.specs.Inside.SortEntries.{AreEnough, HasKeyOf, are_default_behind, are_default_from, before_under, is_default_at, is_key_at, key_values}
+use Rattle.report_rows.specs.Inside.SortEntries.{AreEnough, HasKeyOf, are_default_behind, are_default_from, before_under, is_default_at, is_key_at}
 use Rattle.report_rows.proofs.Maps.{map-twice}
 use Rattle.report_rows.proofs.RowCodes.{by_key, under_values}
 use Rattle.report_rows.proofs.Rows.{later, same-length, same-order}

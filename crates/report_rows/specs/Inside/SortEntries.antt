@@ -22,7 +22,6 @@ use Rattle.tables_groups.specs.Cells.{summary_of}
 use Rattle.tables_groups.specs.Found.{row_of}
 use Rattle.report_rows.specs.declared.sort_entry.SortEntry.{SortEntry}
 use Rattle.semantics.specs.Order.{before, grouping_values, key_value, under_keys}
-use Rattle.query_plan.specs.Planned.{PlannedQuery}
 use Rattle.report_rows.specs.declared.source.Source.{Source}
 use Rattle.report_rows.specs.declared.source.Source.TheVariants.{KeyAt, CellAt, Always}
 use Rattle.report_rows.specs.Sources.{shown_at, values_at}

@@ -15,8 +15,8 @@ use Rattle.report_rows.proofs.Rows.{row_at, sorted-ranks}
 use Rattle.report_rows.proofs.Sources.{codable-fitting, entries-fitting, within-sources}
 use Rattle.report_rows.proofs.ordering.in_order_among.Goals as goal
 
-pub coded_keys-requires : goal.coded_keys-requires
-coded_keys-requires g c = subst (AreKeySources c.args.plan.now) (sym c.deref.ensures.value) c.in_ok-sources.ensures
+pub coded_keys-count-requires : goal.coded_keys-count-requires
+coded_keys-count-requires g c = subst (AreKeySources c.args.plan.now) (sym c.deref.ensures.value) c.in_ok-sources.ensures
 
 pub parts_in_order-requires-clause-within : goal.parts_in_order-requires-clause-within
 parts_in_order-requires-clause-within g c κs within =
