@@ -27,7 +27,8 @@ use Rattle.parts.specs.ReadingParts.{◌>>=◌, all_refused_at, checksum_at, con
 abbrev pub IsRead : {A : Type 0} → A → List (List ℕ) → A × Stream → Type 0
 IsRead a rest read = (read.0 ≡ a) × (read.1.left ≡ rest)
 
--- where the next lines are read as these values, the reading gives this thing, if it gives anything, and the lines behind them are left
+-- where the next lines are read as these values, the reading gives this thing, if it gives anything, and the lines behind
+-- them are left
 abbrev pub ReadsBack : {A : Type 0} → (Stream → Result (A × Stream) Fault) → List Datum → A → Type 0
 ReadsBack one ds a = (s : Stream) (ls rest : List (List ℕ)) → AreReadAs ls ds → s.left ≡ ls ++ rest → IfOk (one s) (IsRead a rest)
 

@@ -103,3 +103,10 @@ closed_open = refl
 
 three : concatenated (codes "a" ∷ [] ∷ codes "b\nc\n" ∷ []) ≡ codes "a\nb\nc\n"
 three = refl
+
+-- the first two and then the third one, and the first one and then the other two
+first_two : concatenated (concatenated (codes "a" ∷ codes "b" ∷ []) ∷ codes "c" ∷ []) ≡ codes "a\nb\nc\n"
+first_two = refl
+
+last_two : concatenated (codes "a" ∷ concatenated (codes "b" ∷ codes "c" ∷ []) ∷ []) ≡ codes "a\nb\nc\n"
+last_two = refl

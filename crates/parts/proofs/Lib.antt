@@ -17,5 +17,6 @@ mod ReadExamples
 mod Refusing
 mod Shaped
 mod Taking
+mod Trees
 mod Written
 mod Joined

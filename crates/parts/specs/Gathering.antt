@@ -42,8 +42,8 @@ abbrev pub IsLastOf : PlannedQuery → PartialState → Option GroupEntry → Ty
 IsLastOf plan partial None = ⊤
 IsLastOf plan partial (Some group) = IsNextOf plan partial (entry_of group)
 
--- A result is one that a plan can finish; the last group that was read can be put to it, and with it and so many members more the groups have at most as many members as there are
--- lines.
+-- A result is one that a plan can finish; the last group that was read can be put to it, and with it and so many members
+-- more the groups have at most as many members as there are lines.
 pub record CanHold (plan : PlannedQuery) (partial : PartialState) (last : Option GroupEntry) (left : ℕ) : Type 0 where
   pub sound : IsSoundUnder plan partial
   pub is_next : IsLastOf plan partial last

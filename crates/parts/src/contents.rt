@@ -97,8 +97,8 @@ fn before_groups<E: Executor>(
     })
 }
 
-/// The contents of a part of a plan, whose first lines, texts of its groups and grouping columns are these, and which has fewer
-/// than 2^63 lines with those before it.
+/// The contents of a part of a plan, whose first lines, texts of its groups and grouping columns are these, and which has
+/// fewer than 2^63 lines with those before it.
 #[tactic(auto, unfolding(crate::specs::ReadingParts::contents_at))]
 pub(crate) fn next_contents<S: Source, E: Executor>(
     alloc: Global,

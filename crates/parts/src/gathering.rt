@@ -56,7 +56,8 @@ impl Gathering {
         requires fits { IsGroupFor (shape_under plan.now.fields plan.now.query)
             (option_map key_of self.last) self.left (entry_of group) }
         ensures gathering { IfOk result (IsGathering plan.now) }
-        ensures groups { IfOk result (λ next. groups_of next ≡ groups_of self ++ entry_of group ∷ []) }
+        ensures groups { IfOk result (λ next.
+            groups_of next ≡ groups_of self ++ entry_of group ∷ []) }
         ensures last { IfOk result (λ next. next.last ≡ Some group) }
         ensures left { IfOk result (λ next. next.left ≡ self.left - group.members) }
         ensures hashed { IfOk result (λ next. (bytes : List ℕ) → Holds256 self.hasher bytes

@@ -101,17 +101,17 @@ fn join_rest<R: Read + Drop, E: Executor>(
     Err(PartsRefusal::Reading)
 }
 
-/// The result of a plan over all inputs whose parts stand one behind the other in what a reader gives. The lines of the first
-/// input come before those of the second one, and so on. The executor puts the groups of parts together; it can do so.
+/// The result of a plan over all inputs whose parts stand one behind the other in what a reader gives. The lines of the
+/// first input come before those of the second one, and so on. The executor puts the groups of parts together; it can do so.
 ///
-/// Example: of the parts of two shards of 3 lines each, of which the first line of the second one is refused, it is the result
-/// over 6 lines, of which the fourth one is refused.
+/// Example: of the parts of two shards of 3 lines each, of which the first line of the second one is refused, it is the
+/// result over 6 lines, of which the fourth one is refused.
 ///
 /// # Errors
 ///
 /// The first fault of the parts, from the front: `NoPart` where there is no line; `NotAPart` or `OtherVersion` where a part
-/// should begin and another line stands; `OtherColumns` and `OtherQuery` where a part is of others than the plan; and where a
-/// line is not what should stand there, `NotAValue`, `UnexpectedValue`, `OutOfOrder`, `OutOfRange`, `EndsTooEarly`,
+/// should begin and another line stands; `OtherColumns` and `OtherQuery` where a part is of others than the plan; and where
+/// a line is not what should stand there, `NotAValue`, `UnexpectedValue`, `OutOfOrder`, `OutOfRange`, `EndsTooEarly`,
 /// `WrongChecksum` or `TooManyLines`. `Reading` where a read fails or the input has 2^63 bytes or more, `OutOfMemory` where
 /// memory runs out.
 pub fn read_parts<R: Read + Drop, E: Executor>(

@@ -12,6 +12,7 @@ mod gathering;
 mod groups;
 mod header;
 mod joining;
+mod laws;
 mod line_faults;
 mod part;
 mod putting;
@@ -24,5 +25,6 @@ mod writing;
 
 pub use fault::PartsRefusal;
 pub use joining::read_parts;
+pub use laws::parts_law;
 pub use semantics::{PartsFault, PartsFaultKind};
 pub use whole::write_part;

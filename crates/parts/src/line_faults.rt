@@ -78,7 +78,8 @@ fn bad_column(columns: &[Column], text: &str) -> Option<usize>
 
 /// The place of the column of this name.
 fn place_of(columns: &[Column], name: &str) -> Option<usize>
-    ensures { result ≡ position (λ column. bytes_eq name.now (string_bytes column.name)) columns.now }
+    ensures { result
+        ≡ position (λ column. bytes_eq name.now (string_bytes column.name)) columns.now }
 {
     columns
         .iter()

@@ -103,7 +103,8 @@ fn find_line<R: Read + Drop>(rounds: &mut Rounds<R>, place: &mut usize) -> Resul
     requires at_line { (line : ℕ) × IsAtLine rounds.old place.old line }
     ensures at_line { (line : ℕ) → IsAtLine rounds.old place.old line
         → IsAtLine rounds.new place.new line }
-    ensures keeps { OnOk result (Keeps (left_at rounds.old place.old) (left_at rounds.new place.new)) }
+    ensures keeps { OnOk result
+        (Keeps (left_at rounds.old place.old) (left_at rounds.new place.new)) }
     ensures some { result ≡ Ok true → HasLine rounds.new place.new }
     ensures none { result ≡ Ok false → IsAtEnd (left_at rounds.old place.old) }
 {
@@ -180,7 +181,8 @@ impl<R: Read + Drop> Source for PartReader<R> {
 
 /// The lines end where one of this number should be.
 fn ends_at(line: u64) -> GroupRefusal
-    ensures { result ≡ GroupRefusal.Fault (record { line = line; kind = GroupFaultKind.EndsTooEarly }) }
+    ensures { result
+        ≡ GroupRefusal.Fault (record { line = line; kind = GroupFaultKind.EndsTooEarly }) }
 {
     GroupRefusal::Fault(GroupFault {
         line,

@@ -14,7 +14,8 @@ use tables::Partial;
 ///
 /// Example: of the result over one line that is no JSON, under the columns `cents:int` and the query
 /// `SELECT SUM(cents) AS s FROM lines`, the text has the lines `"jlreport part 1"`, `"cents:int"`,
-/// `"SELECT SUM(cents) AS s FROM lines"`, `1`, `1`, `1`, `"not JSON"`, `1`, `0`, `0`, `0`, and the checksum of these in quotes.
+/// `"SELECT SUM(cents) AS s FROM lines"`, `1`, `1`, `1`, `"not JSON"`, `1`, `0`, `0`, `0`, and the checksum of these in
+/// quotes.
 ///
 /// # Errors
 ///

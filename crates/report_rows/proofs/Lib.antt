@@ -13,5 +13,6 @@ mod RowScope
 pub mod Keeping
 mod Arranged
 pub mod Sources
+mod CodedKeys
 pub mod InParts
 mod Sharing

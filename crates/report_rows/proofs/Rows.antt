@@ -1,5 +1,5 @@
 -- The order of rows that fit a query.
-use Rattle.std.proofs.Common.{◌≡◌, ◌≢◌, ◌<◌, ℕ, suc, ◌==◌, Bool, true, false, List, [], ◌∷◌, length, map, get_or, slice_index_or, refl, sym, ap, subst, ◌∙◌, arith, All, AllPairs, IsPermutation, IsSortedBy, Bor}
+use Rattle.std.proofs.Common.{◌≡◌, ◌≢◌, ◌<◌, ℕ, zero, suc, ◌==◌, Bool, true, false, List, [], ◌∷◌, length, map, get_or, slice_index_or, take, refl, sym, ap, subst, ◌∙◌, arith, All, AllPairs, IsPermutation, IsSortedBy, Bor}
 use Rattle.std.specs.Prelude.{filter}
 use Rattle.std.specs.declared.cmp.Ordering.{Ordering}
 use Rattle.std.specs.declared.cmp.Ordering.TheVariants.{Less, Equal, Greater}
@@ -26,7 +26,7 @@ use Rattle.tables_groups.specs.Found.{row_of}
 use Rattle.semantics.specs.Rows.{rows_having_true}
 use Rattle.semantics.specs.Order.{grouping_values, key_value, under_key, under_keys, before, in_order, rows_in_order}
 use Rattle.report_rows.specs.Order.{NoneBefore, Ascends}
-use Rattle.report_rows.specs.Inside.SortEntries.{EntryForm, IsCodableRow, by_code, entry_of, key_values}
+use Rattle.report_rows.specs.Inside.SortEntries.{AreEnough, EntryForm, HasKeyOf, IsCodableRow, by_code, entry_of, key_values}
 use Rattle.tables_groups.specs.Fitting.{AreFitting}
 use Rattle.report_rows.specs.Laws.{IsTheOrder, IsBlind}
 use Rattle.report_rows.proofs.Filtering.{bag-having_true, fit-having_true}
@@ -42,10 +42,6 @@ use Rattle.report_rows.proofs.Places.{different-distinct, order-same_set}
 
 -- ---- one row and another
 
--- the index of the row is that of a set, and its key has a value for each column
-abbrev pub IsFit : List Field → TreeForm → Found → Type 0
-IsFit fields t x = (x.0 < length (sets_of fields t)) × (length x.1.key ≡ length (set_of fields t x))
-
 -- the grouping columns that are in the set that is written with these names
 abbrev is_in : List Field → List (List ℕ) → ℕ → Bool
 is_in fields names c = list_any (λ p. p == c) (places_of fields names)
@@ -57,11 +53,11 @@ set-part fields t x within =
     ∙ get_or-map (set_of_names fields t) (names_kept fields t) x.0 [] [] (omega (arith, within, n))
 
 -- how two rows stand to each other by the index of their grouping set, and in one set by what they show for the grouping columns
-abbrev by_columns : List Field → TreeForm → Found → Found → Ordering
+abbrev pub by_columns : List Field → TreeForm → Found → Found → Ordering
 by_columns fields t x y = ordering_then (nat_cmp x.0 y.0) (slice_cmp value_order (grouping_values fields t x) (grouping_values fields t y))
 
 -- rows that fit stand so as their keys do
-same-order : (fields : List Field) (t : TreeForm) (x y : Found) → IsFit fields t x → IsFit fields t y → by_columns fields t x y ≡ by_key x y
+pub same-order : (fields : List Field) (t : TreeForm) (x y : Found) → HasKeyOf fields t x → HasKeyOf fields t y → by_columns fields t x y ≡ by_key x y
 same-order fields t x y fx fy =
     elim (nat_cmp x.0 y.0) as (λ (o : Ordering). nat_cmp x.0 y.0 ≡ o → ordering_then o (slice_cmp value_order (grouping_values fields t x) (grouping_values fields t y)) ≡ ordering_then o (key_order x.1.key y.1.key)) [
       | Less ↦ λ _. refl
@@ -72,51 +68,56 @@ same-order fields t x y fx fy =
     ] refl
 
 -- the first value of each list out of the way
-later : (place : ℕ) (ks : List KeyForm) (x y : Datum) (xs ys : List Datum) → under_values (suc place) ks (x ∷ xs) (y ∷ ys) ≡ under_values place ks xs ys
+pub later : (place : ℕ) (ks : List KeyForm) (x y : Datum) (xs ys : List Datum) → under_values (suc place) ks (x ∷ xs) (y ∷ ys) ≡ under_values place ks xs ys
 later place [] x y xs ys = refl
 later place (k ∷ ks) x y xs ys = ap (ordering_then (under_key k (slice_index_or xs place null) (slice_index_or ys place null))) (later (suc place) ks x y xs ys)
 
--- the values of the keys stand as the rows do under the keys
-same-values : (fields : List Field) (t : TreeForm) (x y : Found) (ks : List KeyForm) → under_keys fields t ks x y ≡ under_values 0 ks (map (key_value fields t x) ks) (map (key_value fields t y) ks)
-same-values fields t x y [] = refl
-same-values fields t x y (k ∷ ks) =
+-- the values of the first keys stand as the rows do under these
+first-values : (fields : List Field) (t : TreeForm) (x y : Found) (count : ℕ) (ks : List KeyForm)
+    → under_keys fields t (take count ks) x y ≡ under_values 0 (take count ks) (map (key_value fields t x) ks) (map (key_value fields t y) ks)
+first-values fields t x y zero ks = refl
+first-values fields t x y (suc count) [] = refl
+first-values fields t x y (suc count) (k ∷ ks) =
+    let xs = map (key_value fields t x) ks in
+    let ys = map (key_value fields t y) ks in
     ap (ordering_then (under_key k (key_value fields t x k) (key_value fields t y k)))
-    (same-values fields t x y ks ∙ sym (later 0 ks (key_value fields t x k) (key_value fields t y k) (map (key_value fields t x) ks) (map (key_value fields t y) ks)))
+    (first-values fields t x y count ks ∙ sym (later 0 (take count ks) (key_value fields t x k) (key_value fields t y k) xs ys))
 
 -- the code beside the row is its own, which tells it from others, and the row fits
-record IsRight (fields : List Field) (t : TreeForm) (r : EntryForm) : Type 0 where
-  code : r.0 ≡ (entry_of fields t r.1).0
-  fits : IsFit fields t r.1
-  codable : IsCodableRow t.keys (key_values fields t r.1) r.1
+pub record IsRight (count : ℕ) (fields : List Field) (t : TreeForm) (r : EntryForm) : Type 0 where
+  code : r.0 ≡ (entry_of count fields t r.1).0
+  fits : HasKeyOf fields t r.1
+  codable : IsCodableRow (take count t.keys) (key_values fields t r.1) r.1
 
 -- the keys of one set are equally long
-same-length : (fields : List Field) (t : TreeForm) (x y : Found) → IsFit fields t x → IsFit fields t y → x.0 ≡ y.0 → length x.1.key ≡ length y.1.key
+pub same-length : (fields : List Field) (t : TreeForm) (x y : Found) → HasKeyOf fields t x → HasKeyOf fields t y → x.0 ≡ y.0 → length x.1.key ≡ length y.1.key
 same-length fields t x y fx fy same = fx.1 ∙ ap (λ (i : ℕ). length (get_or (sets_of fields t) i [])) same ∙ sym fy.1
-
--- rows that fit stand as the codes beside them have them
-same-rank : (fields : List Field) (t : TreeForm) (r s : EntryForm) → IsRight fields t r → IsRight fields t s → before fields t r.1 s.1 ≡ by_code r s
-same-rank fields t r s p q =
-    let xs = key_values fields t r.1 in
-    let ys = key_values fields t s.1 in
-    (λ i. ordering_then (same-values fields t r.1 s.1 t.keys i) (same-order fields t r.1 s.1 p.fits q.fits i))
-    ∙ sym (codes-tell t.keys xs ys r.1 s.1 p.codable q.codable (same-length fields t r.1 s.1 p.fits q.fits))
-    ∙ (λ i. parts_order (sym p.code i) (sym q.code i))
-
--- ---- lists of rows
 
 abbrev row_beside : EntryForm → Found
 row_beside r = r.1
 
-none-same : (fields : List Field) (t : TreeForm) (r : EntryForm) (rs : List EntryForm) → IsRight fields t r → AllByRecursion (IsRight fields t) rs → NoneBefore by_code r rs → NoneBefore (before fields t) r.1 (map row_beside rs)
-none-same fields t r [] p all n = tt
-none-same fields t r (s ∷ rs) p all n = (ap is_gt (same-rank fields t r s p all.0) ∙ n.0, none-same fields t r rs p all.1 n.1)
+module _ (count : ℕ) (fields : List Field) (t : TreeForm) (enough : AreEnough count fields t) where
+  -- rows that fit stand as the codes beside them have them
+  same-rank : (r s : EntryForm) → IsRight count fields t r → IsRight count fields t s → before fields t r.1 s.1 ≡ by_code r s
+  same-rank r s p q =
+      let ks = take count t.keys in
+      let xs = key_values fields t r.1 in
+      let ys = key_values fields t s.1 in
+      sym (enough r.1 s.1 p.fits q.fits)
+      ∙ (λ i. ordering_then (first-values fields t r.1 s.1 count t.keys i) (same-order fields t r.1 s.1 p.fits q.fits i))
+      ∙ sym (codes-tell ks xs ys r.1 s.1 p.codable q.codable (same-length fields t r.1 s.1 p.fits q.fits))
+      ∙ (λ i. parts_order (sym p.code i) (sym q.code i))
 
-ascends-same : (fields : List Field) (t : TreeForm) (rs : List EntryForm) → AllByRecursion (IsRight fields t) rs → Ascends by_code rs → Ascends (before fields t) (map row_beside rs)
-ascends-same fields t [] all a = tt
-ascends-same fields t (r ∷ rs) all a = (none-same fields t r rs all.0 all.1 a.0, ascends-same fields t rs all.1 a.1)
+  none-same : (r : EntryForm) (rs : List EntryForm) → IsRight count fields t r → AllByRecursion (IsRight count fields t) rs → NoneBefore by_code r rs → NoneBefore (before fields t) r.1 (map row_beside rs)
+  none-same r [] p all n = tt
+  none-same r (s ∷ rs) p all n = (ap is_gt (same-rank r s p all.0) ∙ n.0, none-same r rs p all.1 n.1)
+
+  pub ascends-same : (rs : List EntryForm) → AllByRecursion (IsRight count fields t) rs → Ascends by_code rs → Ascends (before fields t) (map row_beside rs)
+  ascends-same [] all a = tt
+  ascends-same (r ∷ rs) all a = (none-same r rs all.0 all.1 a.0, ascends-same rs all.1 a.1)
 
 -- two rows with other keys under one index do not tie
-untied : (fields : List Field) (t : TreeForm) (x y : Found) → IsFit fields t x → IsFit fields t y → (x.0 ≡ y.0 → x.1.key ≢ y.1.key) → is_eq (before fields t x y) ≡ false
+untied : (fields : List Field) (t : TreeForm) (x y : Found) → HasKeyOf fields t x → HasKeyOf fields t y → (x.0 ≡ y.0 → x.1.key ≢ y.1.key) → is_eq (before fields t x y) ≡ false
 untied fields t x y fx fy other =
     elim (is_eq (before fields t x y)) as (λ (b : Bool). is_eq (before fields t x y) ≡ b → b ≡ false) [
       | true ↦ λ e.
@@ -126,23 +127,23 @@ untied fields t x y fx fy other =
       | false ↦ λ _. refl
     ] refl
 
-untied-all : (fields : List Field) (t : TreeForm) (x : Found) (ys : List Found) → IsFit fields t x → AllByRecursion (IsFit fields t) ys → AllByRecursion (λ y. x.0 ≡ y.0 → x.1.key ≢ y.1.key) ys → AllByRecursion (λ y. is_eq (before fields t x y) ≡ false) ys
+untied-all : (fields : List Field) (t : TreeForm) (x : Found) (ys : List Found) → HasKeyOf fields t x → AllByRecursion (HasKeyOf fields t) ys → AllByRecursion (λ y. x.0 ≡ y.0 → x.1.key ≢ y.1.key) ys → AllByRecursion (λ y. is_eq (before fields t x y) ≡ false) ys
 untied-all fields t x [] fx all others = tt
 untied-all fields t x (y ∷ ys) fx all others = (untied fields t x y fx all.0 others.0, untied-all fields t x ys fx all.1 others.1)
 
-apart : (fields : List Field) (t : TreeForm) (found : List Found) → AllByRecursion (IsFit fields t) found → AllPairs (λ x y. x.0 ≡ y.0 → x.1.key ≢ y.1.key) found → Apart (before fields t) found
+apart : (fields : List Field) (t : TreeForm) (found : List Found) → AllByRecursion (HasKeyOf fields t) found → AllPairs (λ x y. x.0 ≡ y.0 → x.1.key ≢ y.1.key) found → Apart (before fields t) found
 apart fields t [] all pairs = tt
 apart fields t (x ∷ found) all pairs = (
   untied-all fields t x found all.0 all.1 (recursion_from_All (λ (y : Found). x.0 ≡ y.0 → x.1.key ≢ y.1.key) found (λ k d within. pairs 0 (suc k) d (omega arith) (omega arith))),
   apart fields t found all.1 (λ i j d below within. pairs (suc i) (suc j) d (omega arith) (omega arith)),
 )
 
-all-fit : (fields : List Field) (t : TreeForm) (found : List Found) → AreFitting fields t found → All (IsFit fields t) found
+all-fit : (fields : List Field) (t : TreeForm) (found : List Found) → AreFitting fields t found → All (HasKeyOf fields t) found
 all-fit fields t found fit k d within = (fit.indexes k d within, fit.keys k d within)
 
 apart-fitting : (fields : List Field) (t : TreeForm) (found : List Found) → AreFitting fields t found → Apart (before fields t) (in_order (before fields t) found)
 apart-fitting fields t found fit =
-    apart-in_order (before-total fields t) found (apart fields t found (recursion_from_All (IsFit fields t) found (all-fit fields t found fit)) fit.distinct)
+    apart-in_order (before-total fields t) found (apart fields t found (recursion_from_All (HasKeyOf fields t) found (all-fit fields t found fit)) fit.distinct)
 
 -- ---- the laws
 
@@ -171,32 +172,34 @@ is-blind fields t found fit others bag =
 abbrev pub row_at : Bor (ℕ × Group) → Found
 row_at r = row_of r.now
 
-each-right : (fields : List Field) (t : TreeForm) (found : List Found) → AllByRecursion (IsFit fields t) found → AllByRecursion (λ x. IsCodableRow t.keys (key_values fields t x) x) found
-    → AllByRecursion (IsRight fields t) (map (entry_of fields t) found)
-each-right fields t [] all codable = tt
-each-right fields t (x ∷ found) all codable = (record { code = refl; fits = all.0; codable = codable.0 }, each-right fields t found all.1 codable.1)
+each-right : (count : ℕ) (fields : List Field) (t : TreeForm) (found : List Found) → AllByRecursion (HasKeyOf fields t) found
+    → AllByRecursion (λ x. IsCodableRow (take count t.keys) (key_values fields t x) x) found → AllByRecursion (IsRight count fields t) (map (entry_of count fields t) found)
+each-right count fields t [] all codable = tt
+each-right count fields t (x ∷ found) all codable = (record { code = refl; fits = all.0; codable = codable.0 }, each-right count fields t found all.1 codable.1)
 
-rows-beside : (fields : List Field) (t : TreeForm) (found : List Found) → map row_beside (map (entry_of fields t) found) ≡ found
-rows-beside fields t [] = refl
-rows-beside fields t (x ∷ found) = ap (λ (xs : List Found). x ∷ xs) (rows-beside fields t found)
+rows-beside : (count : ℕ) (fields : List Field) (t : TreeForm) (found : List Found) → map row_beside (map (entry_of count fields t) found) ≡ found
+rows-beside count fields t [] = refl
+rows-beside count fields t (x ∷ found) = ap (λ (xs : List Found). x ∷ xs) (rows-beside count fields t found)
 
 -- what is a permutation of rows beside values
 pub ranks-moved : {Y : Type 0} (rank : Y → EntryForm) (beside : Found → EntryForm) (found : List Found) (gathered sorted : List Y) → map rank gathered ≡ map beside found → IsPermutation gathered sorted
     → IsPermutation (map beside found) (map rank sorted)
 ranks-moved rank beside found gathered sorted are moved = subst (λ (rs : List EntryForm). IsPermutation rs (map rank sorted)) are (IsPermutation-map rank gathered sorted moved)
 
--- what is sorted by the codes of the rows has the rows in their order
-pub sorted-ranks : {Y : Type 0} (rank : Y → EntryForm) (fields : List Field) (t : TreeForm) (found : List Found) (sorted : List Y) → IsPermutation (map (entry_of fields t) found) (map rank sorted)
-    → IsSortedBy (λ a b. is_lt (by_code (rank a) (rank b))) sorted → AllByRecursion (λ x. IsCodableRow t.keys (key_values fields t x) x) found → AreFitting fields t found → map (λ y. (rank y).1) sorted ≡ in_order (before fields t) found
-sorted-ranks {Y} rank fields t found sorted there up codable fit =
-    let fits : AllByRecursion (IsRight fields t) (map (entry_of fields t) found) = each-right fields t found (recursion_from_All (IsFit fields t) found (all-fit fields t found fit)) codable in
-    let right : AllByRecursion (IsRight fields t) (map rank sorted) =
-    recursion_from_All (IsRight fields t) (map rank sorted) (All-permutation (IsRight fields t) (map (entry_of fields t) found) (map rank sorted) there (All-from_recursion (IsRight fields t) (map (entry_of fields t) found) fits)) in
+-- what is sorted by the codes of the rows, of enough keys, has the rows in their order
+pub sorted-ranks : {Y : Type 0} (rank : Y → EntryForm) (count : ℕ) (fields : List Field) (t : TreeForm) (found : List Found) (sorted : List Y) → AreEnough count fields t → IsPermutation (map (entry_of count fields t) found) (map rank sorted)
+    → IsSortedBy (λ a b. is_lt (by_code (rank a) (rank b))) sorted → AllByRecursion (λ x. IsCodableRow (take count t.keys) (key_values fields t x) x) found → AreFitting fields t found
+    → map (λ y. (rank y).1) sorted ≡ in_order (before fields t) found
+sorted-ranks {Y} rank count fields t found sorted enough there up codable fit =
+    let Right = IsRight count fields t in
+    let entries = map (entry_of count fields t) found in
+    let fits : AllByRecursion Right entries = each-right count fields t found (recursion_from_All (HasKeyOf fields t) found (all-fit fields t found fit)) codable in
+    let right : AllByRecursion Right (map rank sorted) = recursion_from_All Right (map rank sorted) (All-permutation Right entries (map rank sorted) there (All-from_recursion Right entries fits)) in
     let rows : IsPermutation found (map row_beside (map rank sorted)) =
-    subst (λ (xs : List Found). IsPermutation xs (map row_beside (map rank sorted))) (rows-beside fields t found) (IsPermutation-map row_beside (map (entry_of fields t) found) (map rank sorted) there) in
+    subst (λ (xs : List Found). IsPermutation xs (map row_beside (map rank sorted))) (rows-beside count fields t found) (IsPermutation-map row_beside entries (map rank sorted) there) in
     sym (map-twice row_beside rank sorted)
     ∙ only-order fields t found (map row_beside (map rank sorted)) fit (bag-permutation found (map row_beside (map rank sorted)) rows)
-    (ascends-same fields t (map rank sorted) right (ascends-sorted by_code-total rank sorted up))
+    (ascends-same count fields t enough (map rank sorted) right (ascends-sorted by_code-total rank sorted up))
 
 -- rows that fit have indexes of sets
 pub sets-fitting : (plan : PlannedQuery) (groups : List (Bor (ℕ × Group))) → AreFitting plan.fields plan.query (map row_at groups) → All (λ r. HasSetUnder plan (row_at r)) groups

@@ -78,7 +78,7 @@ pub key-sources-count : (plan : PlannedQuery) (all : List (Vec Source)) → AreK
 key-sources-count plan all each = each-count (AreSourcesFor plan (key_expressions plan)) (sets_of plan.fields plan.query) all each
 
 -- the values that a row has at the sources are those of the keys
-values-keys : (plan : PlannedQuery) (all : List (Vec Source)) (row : Found) → AreKeySources plan all → row.0 < length (sets_of plan.fields plan.query) → values_at all row ≡ key_values plan.fields plan.query row
+pub values-keys : (plan : PlannedQuery) (all : List (Vec Source)) (row : Found) → AreKeySources plan all → row.0 < length (sets_of plan.fields plan.query) → values_at all row ≡ key_values plan.fields plan.query row
 values-keys plan all row each within =
     let fields = plan.fields in
     let t = plan.query in
@@ -89,32 +89,33 @@ values-keys plan all row each within =
     ∙ map-twice cell_value shown (key_expressions plan)
     ∙ map-twice (row_value fields t row) (λ (k : KeyForm). key_expression t.items k.expression) t.keys
 
--- so rows have the same entries
-pub entries-same : (plan : PlannedQuery) (all : List (Vec Source)) (found : List Found) → AreKeySources plan all → AllByRecursion (λ row. row.0 < length (sets_of plan.fields plan.query)) found
-    → map (entry_at plan.query.keys all) found ≡ map (entry_of plan.fields plan.query) found
-entries-same plan all [] each within = refl
-entries-same plan all (row ∷ found) each within =
-    let here : entry_at plan.query.keys all row ≡ entry_of plan.fields plan.query row = λ i. (parts_of (row_code plan.query.keys (values-keys plan all row each within.0 i) row), row) in
-    let rest = entries-same plan all found each within.1 in
+-- so rows have the same entries, whatever the number of keys in their codes
+pub entries-same : (count : ℕ) (plan : PlannedQuery) (all : List (Vec Source)) (found : List Found) → AreKeySources plan all → AllByRecursion (λ row. row.0 < length (sets_of plan.fields plan.query)) found
+    → map (entry_at (take count plan.query.keys) all) found ≡ map (entry_of count plan.fields plan.query) found
+entries-same count plan all [] each within = refl
+entries-same count plan all (row ∷ found) each within =
+    let ks = take count plan.query.keys in
+    let here : entry_at ks all row ≡ entry_of count plan.fields plan.query row = λ i. (parts_of (row_code ks (values-keys plan all row each within.0 i) row), row) in
+    let rest = entries-same count plan all found each within.1 in
     λ i. here i ∷ rest i
 
 -- rows that fit do
-pub entries-fitting : (plan : PlannedQuery) (all : List (Vec Source)) (found : List Found) → AreKeySources plan all → AreFitting plan.fields plan.query found
-    → map (entry_at plan.query.keys all) found ≡ map (entry_of plan.fields plan.query) found
-entries-fitting plan all found each fit = entries-same plan all found each (recursion_from_All (λ (row : Found). row.0 < length (sets_of plan.fields plan.query)) found fit.indexes)
+pub entries-fitting : (count : ℕ) (plan : PlannedQuery) (all : List (Vec Source)) (found : List Found) → AreKeySources plan all → AreFitting plan.fields plan.query found
+    → map (entry_at (take count plan.query.keys) all) found ≡ map (entry_of count plan.fields plan.query) found
+entries-fitting count plan all found each fit = entries-same count plan all found each (recursion_from_All (λ (row : Found). row.0 < length (sets_of plan.fields plan.query)) found fit.indexes)
 
-codable-same : (plan : PlannedQuery) (all : List (Vec Source)) (found : List Found) → AreKeySources plan all → AllByRecursion (λ row. row.0 < length (sets_of plan.fields plan.query)) found
-    → AllByRecursion (IsCodableAt plan.query.keys all) found → AllByRecursion (λ row. IsCodableRow plan.query.keys (key_values plan.fields plan.query row) row) found
-codable-same plan all [] each within codable = tt
-codable-same plan all (row ∷ found) each within codable = (
-  subst (λ (values : List Datum). IsCodableRow plan.query.keys values row) (values-keys plan all row each within.0) codable.0,
-  codable-same plan all found each within.1 codable.1,
+codable-same : (ks : List KeyForm) (plan : PlannedQuery) (all : List (Vec Source)) (found : List Found) → AreKeySources plan all → AllByRecursion (λ row. row.0 < length (sets_of plan.fields plan.query)) found
+    → AllByRecursion (IsCodableAt ks all) found → AllByRecursion (λ row. IsCodableRow ks (key_values plan.fields plan.query row) row) found
+codable-same ks plan all [] each within codable = tt
+codable-same ks plan all (row ∷ found) each within codable = (
+  subst (λ (values : List Datum). IsCodableRow ks values row) (values-keys plan all row each within.0) codable.0,
+  codable-same ks plan all found each within.1 codable.1,
 )
 
 -- and all that their codes are of has a code of its own
-pub codable-fitting : (plan : PlannedQuery) (all : List (Vec Source)) (found : List Found) → AreKeySources plan all → AreFitting plan.fields plan.query found
-    → AllByRecursion (IsCodableAt plan.query.keys all) found → AllByRecursion (λ row. IsCodableRow plan.query.keys (key_values plan.fields plan.query row) row) found
-codable-fitting plan all found each fit = codable-same plan all found each (recursion_from_All (λ (row : Found). row.0 < length (sets_of plan.fields plan.query)) found fit.indexes)
+pub codable-fitting : (ks : List KeyForm) (plan : PlannedQuery) (all : List (Vec Source)) (found : List Found) → AreKeySources plan all → AreFitting plan.fields plan.query found
+    → AllByRecursion (IsCodableAt ks all) found → AllByRecursion (λ row. IsCodableRow ks (key_values plan.fields plan.query row) row) found
+codable-fitting ks plan all found each fit = codable-same ks plan all found each (recursion_from_All (λ (row : Found). row.0 < length (sets_of plan.fields plan.query)) found fit.indexes)
 
 -- the index of each row that fits is below the number of the lists, which a call is handed as a slice, as it is the rows
 pub within-sources : (plan : PlannedQuery) (all sources : List (Vec Source)) (rows slice : List (Bor (ℕ × Group))) → AreKeySources plan all → sources ≡ all → slice ≡ rows → AreFitting plan.fields plan.query (map row_at rows)

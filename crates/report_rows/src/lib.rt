@@ -6,6 +6,7 @@
 
 mod arranging;
 mod cells;
+mod coded;
 mod having;
 mod keys;
 mod laws;

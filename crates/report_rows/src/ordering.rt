@@ -1,5 +1,5 @@
 //! The order of rows.
-ghost use Rattle.std.specs.Prelude.{◌≡◌, ◌<◌, ◌++◌, All, IfOk, OnOk, length, map};
+ghost use Rattle.std.specs.Prelude.{◌≡◌, ◌<◌, ◌++◌, All, IfOk, OnOk, length, map, take};
 ghost use Rattle.std.specs.List.{AllByRecursion, flat_map};
 ghost use Rattle.std.specs.List.Sorted.{IsPermutation, IsSortedBy};
 ghost use Rattle.std.specs.Ordering.{is_lt};
@@ -10,6 +10,7 @@ ghost use Rattle.semantics.specs.Order.{before, in_order};
 ghost use Rattle.report_rows.specs.Parts.{AreMade, items_of};
 ghost use Rattle.report_rows.specs.Inside.SortEntries.{AreEntriesOf, AreEntriesOfParts, IsCodableAt, by_code, entry_at, entry_form};
 
+use crate::coded::coded_keys;
 use crate::keys::row_key;
 use crate::sort_entry::SortEntry;
 use crate::source::{Source, key_sources};
@@ -21,11 +22,12 @@ use std::thread;
 use std::thread::Threads;
 use tables_groups::Group;
 
-/// The keys of ORDER BY.
-fn keys_of<'p>(plan: &'p PlanView<'_>) -> &'p [Key]
-    ensures { map key_form result.now ≡ plan.now.query.keys }
+/// So many of the first keys of ORDER BY, and all where there are fewer.
+fn first_keys<'p>(plan: &'p PlanView<'_>, count: usize) -> &'p [Key]
+    ensures { map key_form result.now ≡ take count plan.now.query.keys }
 {
-    plan.query().tree().keys.as_slice()
+    let keys = plan.query().tree().keys.as_slice();
+    keys.get(..count).unwrap_or(keys)
 }
 
 /// The groups in the order of their rows: by the keys of ORDER BY, where there are some, and else by their sets and keys.
@@ -40,7 +42,8 @@ pub(crate) fn in_order<'a>(
         (map (λ r. row_of r.now) rows.entry.items)) }
 {
     let sources = key_sources(alloc, plan)?;
-    let entries = make_entries(alloc, keys_of(plan), &sources, rows.as_slice())?;
+    let keys = first_keys(plan, coded_keys(plan, &sources));
+    let entries = make_entries(alloc, keys, &sources, rows.as_slice())?;
     let ordered = sort_entries(entries);
     groups_in(alloc, ordered)
 }
@@ -64,25 +67,28 @@ pub(crate) fn in_order_among<'a, H: Threads + Sync>(
         return in_order(alloc, plan, rows);
     }
     let sources = key_sources(alloc, plan)?;
-    let parts = parts_in_order(rt, alloc, plan, &sources, rows.as_slice(), size)?;
+    let count = coded_keys(plan, &sources);
+    let parts = parts_in_order(rt, alloc, plan, count, &sources, rows.as_slice(), size)?;
     let entries = rows_of_parts(alloc, parts.as_slice(), rows.len())?;
     let ordered = merge_entries(entries)?;
     groups_at(alloc, ordered)
 }
 
-/// The groups in parts of so many, each beside what their rows are put in order by, and each part in that order.
+/// The groups in parts of so many, each beside what their rows are put in order by, with `count` keys of ORDER BY, and each
+/// part in that order.
 fn parts_in_order<'a, H: Threads + Sync>(
     rt: &H,
     alloc: Global,
     plan: &PlanView<'_>,
+    count: usize,
     sources: &[Vec<Source>],
     rows: &[&'a (usize, Group)],
     size: usize,
 ) -> Result<Vec<Result<Vec<SortEntry<'a>>, AllocError>>, AllocError>
     requires size { 0 < size }
     requires within { All (λ r. (row_of r.now).0 < length sources.now) rows.now }
-    ensures { IfOk result (λ parts. AreEntriesOfParts plan.now.query.keys sources.now size
-        (map (λ r. row_of r.now) rows.now) parts.items) }
+    ensures { IfOk result (λ parts. AreEntriesOfParts (take count plan.now.query.keys)
+        sources.now size (map (λ r. row_of r.now) rows.now) parts.items) }
 {
     let parts = thread::map_chunks(
         rt,
@@ -91,25 +97,26 @@ fn parts_in_order<'a, H: Threads + Sync>(
         size,
         &|_, part: &[&(usize, Group)]| -> Result<Vec<SortEntry<'_>>, AllocError>
             requires { All (λ r. (row_of r.now).0 < length sources.now) part.now }
-            ensures { IfOk result (λ v. AreEntriesOf plan.entry.now.query.keys sources.entry.now
-                (map (λ r. row_of r.now) part.entry.now) v.items) }
-        { part_in_order(alloc, plan, sources, part) },
+            ensures { IfOk result (λ v. AreEntriesOf (take count plan.entry.now.query.keys)
+                sources.entry.now (map (λ r. row_of r.now) part.entry.now) v.items) }
+        { part_in_order(alloc, plan, count, sources, part) },
     )?;
     Ok(parts)
 }
 
-/// The groups of one part beside what their rows are put in order by, in that order.
+/// The groups of one part beside what their rows are put in order by, with `count` keys of ORDER BY, in that order.
 fn part_in_order<'a>(
     alloc: Global,
     plan: &PlanView<'_>,
+    count: usize,
     sources: &[Vec<Source>],
     rows: &[&'a (usize, Group)],
 ) -> Result<Vec<SortEntry<'a>>, AllocError>
     requires { All (λ r. (row_of r.now).0 < length sources.now) rows.now }
-    ensures { IfOk result (λ v. AreEntriesOf plan.now.query.keys sources.now
+    ensures { IfOk result (λ v. AreEntriesOf (take count plan.now.query.keys) sources.now
         (map (λ r. row_of r.now) rows.now) v.items) }
 {
-    let entries = make_entries(alloc, keys_of(plan), sources, rows)?;
+    let entries = make_entries(alloc, first_keys(plan, count), sources, rows)?;
     Ok(sort_entries(entries))
 }
 

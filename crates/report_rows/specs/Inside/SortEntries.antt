@@ -1,15 +1,18 @@
 -- Rows beside the sort keys by which they are put in order.
-use Rattle.std.specs.Prelude.{ℕ, suc, ⊤, ◌^◌, ◌<◌, List, [], ◌∷◌, ◌++◌, map, slice_index_or}
+use Rattle.std.specs.Prelude.{◌≡◌, ℕ, suc, ⊤, ◌^◌, ◌<◌, ◌==◌, Bool, true, false, ◌&&◌, not, List, [], ◌∷◌, ◌++◌, drop, length, map, slice_index_or, take}
+use Rattle.std.specs.Cmp.Lexicographic.{slice_cmp}
+use Rattle.std.specs.Ordering.{nat_cmp, ordering_then}
 use Rattle.std.specs.declared.cmp.Ordering.{Ordering}
 use Rattle.std.specs.Global.{Vec}
 use Rattle.std.specs.List.{AllByRecursion}
 use Rattle.std.specs.List.Sorted.{IsPermutation}
 use Rattle.std.specs.declared.alloc.AllocError.{AllocError}
 use Rattle.std.specs.declared.result.Result.{Result}
-use Rattle.semantics.specs.Values.{Datum, null}
+use Rattle.semantics.specs.Values.{Datum, null, value_order}
 use Rattle.semantics.specs.Columns.{Field}
 use Rattle.semantics.specs.Syntax.{KeyForm, TreeForm}
-use Rattle.semantics.specs.Found.{Found}
+use Rattle.semantics.specs.Sets.{sets_of}
+use Rattle.semantics.specs.Found.{Found, set_of}
 use Rattle.semantics.specs.Rows.{cell_value}
 use Rattle.values.specs.Datum.{data_of}
 use Rattle.sort_keys.specs.Codes.{IsCodable, index_code, key_code, values_code}
@@ -18,8 +21,9 @@ use Rattle.tables_groups.specs.declared.group.Group.{Group}
 use Rattle.tables_groups.specs.Cells.{summary_of}
 use Rattle.tables_groups.specs.Found.{row_of}
 use Rattle.report_rows.specs.declared.sort_entry.SortEntry.{SortEntry}
-use Rattle.semantics.specs.Order.{key_value}
+use Rattle.semantics.specs.Order.{before, grouping_values, key_value, under_keys}
 use Rattle.report_rows.specs.declared.source.Source.{Source}
+use Rattle.report_rows.specs.declared.source.Source.TheVariants.{KeyAt, CellAt, Always}
 use Rattle.report_rows.specs.Sources.{shown_at, values_at}
 use Rattle.report_rows.specs.Parts.{AreOfParts}
 
@@ -59,15 +63,49 @@ pub record IsCodableRow (ks : List KeyForm) (there : List Datum) (row : Found) :
   pub index : row.0 < 2 ^ 64
   pub key : AllByRecursion IsCodable row.1.key
 
+-- ---- keys that are left out
+
+-- what is there is the value at this place of a group's key
+abbrev pub is_key_at : ℕ → Source → Bool
+is_key_at place (KeyAt at) = at == place
+is_key_at place (CellAt at) = false
+is_key_at place (Always value) = false
+
+-- a key of ORDER BY is default, ascending with NULL last, and its value is that at this place of a group's key
+abbrev pub is_default_at : ℕ → KeyForm → Source → Bool
+is_default_at place k source = not k.descending && (not k.nulls_first && is_key_at place source)
+
+-- keys of ORDER BY, whose values are at these sources, are the default order of the values of a group's key from a place on
+abbrev pub are_default_from : ℕ → List KeyForm → List Source → Bool
+are_default_from place [] sources = true
+are_default_from place (k ∷ ks) [] = false
+are_default_from place (k ∷ ks) (source ∷ sources) = is_default_at place k source && are_default_from (suc place) ks sources
+
+-- the keys behind so many of them are the beginning of the default order
+abbrev pub are_default_behind : ℕ → List KeyForm → List Source → Bool
+are_default_behind count ks sources = are_default_from 0 (drop count ks) (drop count sources)
+
+-- the index of a row is that of a grouping set, and its key has a value for each column of the set
+abbrev pub HasKeyOf : List Field → TreeForm → Found → Type 0
+HasKeyOf fields t row = (row.0 < length (sets_of fields t)) × (length row.1.key ≡ length (set_of fields t row))
+
+-- how two rows stand to each other under these keys, then by the index of their grouping set, and in one set by what they show for the grouping columns
+abbrev pub before_under : List KeyForm → List Field → TreeForm → Found → Found → Ordering
+before_under ks fields t x y = ordering_then (under_keys fields t ks x y) (ordering_then (nat_cmp x.0 y.0) (slice_cmp value_order (grouping_values fields t x) (grouping_values fields t y)))
+
+-- so many of the first keys of ORDER BY are enough: under them rows stand to each other as under all
+abbrev pub AreEnough : ℕ → List Field → TreeForm → Type 0
+AreEnough count fields t = (x y : Found) → HasKeyOf fields t x → HasKeyOf fields t y → before_under (take count t.keys) fields t x y ≡ before fields t x y
+
 -- ---- entries
 
 -- an entry apart from where it lies in memory: the code of a row in parts, and the row
 abbrev pub EntryForm : Type 0
 EntryForm = SortParts × Found
 
--- the entry of a row
-abbrev pub entry_of : List Field → TreeForm → Found → EntryForm
-entry_of fields t row = (parts_of (row_code t.keys (key_values fields t row) row), row)
+-- the entry of a row, where its code is of so many of the first keys
+abbrev pub entry_of : ℕ → List Field → TreeForm → Found → EntryForm
+entry_of count fields t row = (parts_of (row_code (take count t.keys) (key_values fields t row) row), row)
 
 -- the entry of a row for which the keys have the values at these sources
 abbrev pub entry_at : List KeyForm → List (Vec Source) → Found → EntryForm

@@ -16,7 +16,7 @@ pub returns : goal.returns
 returns g c =
     let size = c.args.size in
     let groups = c.args.rows.now in
-    let are = AreEntriesOf c.args.plan.now.query.keys c.args.sources.now in
+    let are = AreEntriesOf (take c.args.count c.args.plan.now.query.keys) c.args.sources.now in
     let parts = c.in_ok-parts.parts.items in
     let count = length-map groups row_at in
     let ok = c.in_ok-parts.parts.ok in
