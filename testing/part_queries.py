@@ -93,6 +93,22 @@ QUERIES = (
         (Function("rows"),),
         dict(n=0, shop="shop"),
     ),
+    Query(
+        """SELECT MIN(note) AS "a ""b"" \\\n\x7f😀" FROM lines WHERE note <> 'it''s "\x01\\"' AND open""",
+        COLUMNS,
+        functions=(Function("min", "note"),),
+        items={'a "b" \\\n\x7f😀': 0},
+        where=lambda it: it["note"] not in (None, 'it\'s "\x01\\"') and it["open"] is True,
+    ),
+)
+
+# One of nearly the greatest length, each byte of which is written with six in a part.
+LONG = Query(
+    f"SELECT COUNT(*) AS n FROM lines WHERE note <> '{chr(1) * 65480}'",
+    COLUMNS,
+    functions=(Function("rows"),),
+    items=dict(n=0),
+    where=lambda it: it["note"] not in (None, "\x01" * 65480),
 )
 
 # One that is quickly said: its part has behind its header the number of lines and of refused ones, and then 1, the number of
