@@ -55,7 +55,7 @@ class Tally:
         """Compares the status and the two outputs of a run of the program over some bytes."""
         words = ["--columns", query.texts()[0], "--query", query.typed, *flags, "/dev/stdin"]
         met = run([PROGRAM, *words], data)
-        told = "" if met == wanted else f"{name}: {shlex.join(['jlreport', *words])}: {differences(met, wanted)}"
+        told = f"{name}: {differences(met, wanted)}\n  $ {shlex.join(['jlreport', *words]):.1000}"
         self.check(met == wanted, told)
 
 
