@@ -212,7 +212,7 @@ reads-stopped (Err f) fault (Some bytes) read is h = subst (λ (x : JoinFault). 
 
 -- ---- no fault of a join is one of a thread
 
-run_fault : JoinFault → RunFault
+abbrev run_fault : JoinFault → RunFault
 run_fault (Run fault) = fault
 run_fault (Parts fault) = Reading
 

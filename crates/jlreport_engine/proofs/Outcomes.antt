@@ -140,6 +140,10 @@ both-known : (known : Option (List ℕ)) (P Q : List ℕ → Type 0) → IfSome 
 both-known None P Q p q = tt
 both-known (Some input) P Q p q = (p, q)
 
+all-known : (known : Option (List ℕ)) (P Q R : List ℕ → Type 0) → IfSome known P → IfSome known Q → IfSome known R → IfSome known (λ input. P input × Q input × R input)
+all-known None P Q R p q r = tt
+all-known (Some input) P Q R p q r = (p, q, r)
+
 -- the texts of a result
 pub record AreTextsOf (fields : List Field) (q : TreeForm) (partial : PartialState) (text list : List ℕ) : Type 0 where
   pub report : IsTextOf (report fields q) fields q partial text
@@ -181,11 +185,10 @@ run-unwritten WritingRefused limit fields q known partial text list oo on eo en 
   writes_refusals = tt;
   answers = answer-resource WritingRefused limit fields known tt;
   leaves =
-      both-known known (λ input. IsWithin limit (length (refused_lines fields input))) (λ input. Appends oo on (report fields q input) × AppendsBeginning eo en (refusals fields input))
+      all-known known (λ input. IsWithin limit (length (refused_lines fields input))) (λ input. Appends oo on (report fields q input)) (λ input. AppendsBeginning eo en (refusals fields input))
       (few-known limit fields q known partial within stands)
-      (both-known known (λ input. Appends oo on (report fields q input)) (λ input. AppendsBeginning eo en (refusals fields input))
       (of-text (Appends oo on) text (report fields q) fields q known partial (λ input. report-read fields q partial text input are.report) stands left.0)
-      (of-text (AppendsBeginning eo en) list (refusals fields) fields q known partial (λ input. refusals-read fields q partial list input are.refusals) stands left.1));
+      (of-text (AppendsBeginning eo en) list (refusals fields) fields q known partial (λ input. refusals-read fields q partial list input are.refusals) stands left.1);
 }
 
 -- no fault of writing is one of a thread
