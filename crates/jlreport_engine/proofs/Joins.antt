@@ -97,8 +97,8 @@ over-stops : (limit : Option ℕ) (plan : PlannedQuery) (given : Option (List �
 over-stops limit plan given partial most is more stands = (
   (is, tt),
   λ inputs are. (
-      is,
-      subst (λ count. most < count) (refused-of-input plan.fields plan.query partial (concatenated inputs) (given-stands plan given partial stands inputs are)) more,
+    is,
+    subst (λ count. most < count) (refused-of-input plan.fields plan.query partial (concatenated inputs) (given-stands plan given partial stands inputs are)) more,
   ),
 )
 

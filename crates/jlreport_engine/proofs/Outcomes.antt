@@ -174,10 +174,10 @@ run-unwritten WritingReport limit fields q known partial text list oo on eo en w
   writes_refusals = tt;
   answers = answer-resource WritingReport limit fields known tt;
   leaves = (
-      both-known known (λ input. IsWithin limit (length (refused_lines fields input))) (λ input. AppendsBeginning oo on (report fields q input))
-          (few-known limit fields q known partial within stands)
-          (of-text (AppendsBeginning oo on) text (report fields q) fields q known partial (λ input. report-read fields q partial text input are.report) stands left.0),
-      left.1,
+    both-known known (λ input. IsWithin limit (length (refused_lines fields input))) (λ input. AppendsBeginning oo on (report fields q input))
+        (few-known limit fields q known partial within stands)
+        (of-text (AppendsBeginning oo on) text (report fields q) fields q known partial (λ input. report-read fields q partial text input are.report) stands left.0),
+    left.1,
   );
 }
 run-unwritten WritingRefused limit fields q known partial text list oo on eo en within stands are left = record {
