@@ -30,10 +30,10 @@ const PIECE: usize = 1_048_576;
 const MAX_PIECES: usize = 1_048_576;
 
 /// The greatest length of an input, in bytes.
-const LONGEST: usize = 0x7fff_ffff_ffff_ffff;
+pub(crate) const LONGEST: usize = 0x7fff_ffff_ffff_ffff;
 
 /// The plan of a query over columns; `None` where one of them is refused.
-fn plan_of(alloc: Global, columns: &str, query: &str) -> Option<Plan> {
+pub(crate) fn plan_of(alloc: Global, columns: &str, query: &str) -> Option<Plan> {
     let schema = Schema::parse(alloc, columns).ok()?;
     let query = parse(alloc, query).ok()?;
     check(alloc, query, schema).ok()
@@ -41,7 +41,7 @@ fn plan_of(alloc: Global, columns: &str, query: &str) -> Option<Plan> {
 
 /// The result of a plan over an input, by so many threads; `None` where it has more than
 /// 1,048,576 pieces, memory runs out, or a thread cannot be started.
-fn result_of<R: Threads + Wait + Sync>(
+pub(crate) fn result_of<R: Threads + Wait + Sync>(
     rt: &R,
     alloc: Global,
     plan: &Plan,

@@ -2,6 +2,7 @@
 //! others are its words:
 //!
 //! - `fold COLUMNS QUERY FILE HANDS` times the work of threads over a file that is held whole,
+//! - `part COLUMNS QUERY FILE HANDS` times the writing and the reading of the part of a file,
 //! - `deal WAY HANDS` times the dealing of pieces,
 //! - `compare COLUMNS FILE` holds the three ways to read a line to one another,
 //! - `floor FILE..` reads each line as JSON, and drops it.
@@ -21,6 +22,7 @@ mod compare;
 mod deal;
 mod floor;
 mod fold;
+mod part;
 
 /// The number of hands that a word means.
 fn hands_of(word: &str) -> usize
@@ -34,6 +36,7 @@ fn main(rt: HostRuntime) -> io::Result<()> {
     let words: Vec<&str> = words.iter().map(|word| word.as_str()).collect(rt.alloc())?;
     match words.as_slice() {
         ["fold", columns, query, path, hands, ..] => fold::run(&rt, columns, query, path, hands),
+        ["part", columns, query, path, hands, ..] => part::run(&rt, columns, query, path, hands),
         ["deal", way, hands, ..] => deal::run(&rt, Way::from_name(way), hands),
         ["compare", columns, path, ..] => compare::run(&rt, columns, path),
         ["floor", paths @ ..] => floor::run(&rt, paths),

@@ -17,7 +17,7 @@ use semantics::WordsFault;
 use std::alloc::Global;
 
 /// What `--version` shows behind the program's name.
-const VERSION: &str = "1.1.1";
+const VERSION: &str = "1.2.0";
 
 /// What stands at the top of the help.
 const ABOUT: &str = "Answers one SQL aggregate query over a file of JSON lines";

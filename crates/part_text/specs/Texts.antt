@@ -1,10 +1,6 @@
 -- Values as JSON texts (RFC 8259), each on a line of its own.
-use Rattle.std.specs.Fmt.{signed_decimal}
-use Rattle.std.specs.List.{flat_map}
-use Rattle.std.specs.Prelude.{◌^◌, ℕ, ℤ, pos, negsuc, nat_lt, Bool, true, false, List, [], ◌∷◌, ◌++◌, codes}
+use Rattle.std.specs.Prelude.{◌^◌, ℤ, pos, negsuc, nat_lt, Bool, true}
 use Rattle.std.specs.Str.{is_utf8}
-use Rattle.json.specs.Print.{quoted}
-use Rattle.semantics.specs.Lines.{line_feed}
 use Rattle.semantics.specs.Values.{Datum, boolean, whole, text, null}
 
 -- Whether 128 bits hold a whole number: from -2^127 to 2^127 - 1.
