@@ -14,7 +14,6 @@ use Rattle.semantics.specs.declared.function.ColumnFunction.{ColumnFunction}
 use Rattle.semantics.specs.declared.function.ColumnFunction.TheVariants as function
 use Rattle.query_resolve.specs.declared.function.FilteredFunction.{FilteredFunction}
 use Rattle.semantics.specs.GroupStates.{different_values, function_state, FunctionState}
-use Rattle.semantics.specs.GroupStates as over
 use Rattle.group_states.specs.States.{state_of, states_of}
 use Rattle.group_states.specs.declared.entry.State.{State}
 use Rattle.semantics.specs.GroupStates as state
@@ -59,7 +58,7 @@ set-back values = set.same_set value_total value_antisymmetric (set_of (ascendin
 
 -- ---- the states of set functions over records
 
-plain-by : (t : Option (Row → Bool)) (f : ColumnFunction) (rows : List Row) → plain_state (state_by t f rows) ≡ over.state_by t f rows
+plain-by : (t : Option (Row → Bool)) (f : ColumnFunction) (rows : List Row) → plain_state (state_by t f rows) ≡ state.state_by t f rows
 plain-by None function.CountRows rows = refl
 plain-by None (function.Count place) rows = refl
 plain-by None (function.CountDistinct place) rows = ap state.collected (ascending-different (column_values place rows))
