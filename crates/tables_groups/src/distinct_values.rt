@@ -129,7 +129,10 @@ fn insert_copy(values: &mut HashSet<Value, FixedState>, value: &Value) -> Result
 }
 
 /// The values of a set, each beside its sort key.
-fn keyed_values(alloc: Global, values: HashSet<Value, FixedState>) -> Result<Vec<Keyed<Value>>, AllocError>
+fn keyed_values(
+    alloc: Global,
+    values: HashSet<Value, FixedState>,
+) -> Result<Vec<Keyed<Value>>, AllocError>
     ensures values { IfOk result (λ keyed.
         map keyed_value keyed.items ≡ map keyed_datum (data_of values.keys)) }
     ensures codable { OnOk result (AllByRecursion IsCodable (data_of values.keys)) }

@@ -53,32 +53,32 @@ IsAscending order [] = ⊤
 IsAscending order (x ∷ []) = ⊤
 IsAscending order (x ∷ y ∷ ys) = (order x y ≡ Less) × IsAscending order (y ∷ ys)
 
--- nothing
+-- the state of a COUNT(*) without FILTER, which keeps nothing: its count is the number of members
 abbrev pub IsRowsState : FunctionState → Type 0
 IsRowsState state.rows = ⊤
 IsRowsState s = ⊥
 
--- a count of at most so many members
+-- the state of a COUNT: at most so many members
 abbrev pub IsCountState : ℕ → FunctionState → Type 0
 IsCountState members (state.counted n) = n ≤ members
 IsCountState members s = ⊥
 
--- a sum of numbers of 64 bits, of at most so many members
+-- the state of a SUM or an AVG: how many numbers of 64 bits were added, one of a member at most, and a sum that so many can have
 abbrev pub IsSumState : ℕ → FunctionState → Type 0
 IsSumState members (state.summed s n) = (n ≤ members) × IsSumOf n s
 IsSumState members s = ⊥
 
--- a value
+-- the state of a MIN or a MAX: a value
 abbrev pub IsExtremeState : FunctionState → Type 0
 IsExtremeState (state.extreme d) = ⊤
 IsExtremeState s = ⊥
 
--- different values, ascending
+-- the state of a COUNT DISTINCT: different values, ascending
 abbrev pub IsDistinctState : FunctionState → Type 0
 IsDistinctState (state.collected values) = IsAscending value_order values
 IsDistinctState s = ⊥
 
--- a state of the form that a set function keeps of the records that it takes, of at most so many members
+-- a state of the form that a set function has, over at most so many members
 abbrev pub HasFormOver : ColumnFunction → ℕ → FunctionState → Type 0
 HasFormOver function.CountRows members s = IsCountState members s
 HasFormOver (function.Count place) members s = IsCountState members s
@@ -88,20 +88,20 @@ HasFormOver (function.Min place) members s = IsExtremeState s
 HasFormOver (function.Max place) members s = IsExtremeState s
 HasFormOver (function.Avg place) members s = IsSumState members s
 
--- so it is with a FILTER, and without one, but that nothing is kept of COUNT(*)
+-- the same with a FILTER or without one; without one COUNT(*) keeps nothing
 abbrev pub HasFormBy : Option ℕ → ColumnFunction → ℕ → FunctionState → Type 0
 HasFormBy None function.CountRows members s = IsRowsState s
 HasFormBy filter f members s = HasFormOver f members s
 
--- a state of the form that a set function keeps of at most so many members
+-- the same of a set function with the index of its FILTER
 abbrev pub IsStateFor : FilteredFunction → ℕ → FunctionState → Type 0
 IsStateFor f members s = HasFormBy f.filter f.function members s
 
--- so is a state for each set function
+-- each of the states has the form of its set function
 abbrev pub AreStatesFor : List FilteredFunction → ℕ → List FunctionState → Type 0
 AreStatesFor functions members states = AllZip (λ f s. IsStateFor f members s) functions states
 
--- a group has a state of its form for each set function
+-- the states of a group have the forms of the set functions over its members
 abbrev pub IsEntryFor : List FilteredFunction → EntryForm → Type 0
 IsEntryFor functions entry = AreStatesFor functions entry.members entry.states
 
@@ -120,11 +120,11 @@ pub record IsTypedEntry (fields : List Field) (set : List ℕ) (functions : List
 abbrev pub IsBehind : Key → List EntryForm → Type 0
 IsBehind key entries = All (λ entry. key_order entry.key key ≡ Less) entries
 
--- what a table promises that has one group more, behind all that were there: with the members of this one it has no more records than it may have
+-- where the groups of a table have at most so many members together, those of the table with one group more have at most so many and the members of this one
 abbrev pub CountsEntry : List FilteredFunction → EntryForm → Contents → Contents → Type 0
 CountsEntry functions entry old new = (most : ℕ) → IsCounted most functions old → IsCounted (most + entry.members) functions new
 
--- and it is of the types of columns and set functions where the group is
+-- where a table is of the types of the columns and the set functions, and the group is, the table with this group more is
 abbrev pub TypesEntry : List FilteredFunction → EntryForm → Contents → Contents → Type 0
 TypesEntry functions entry old new =
     (fields : List Field) (set : List ℕ)
@@ -132,12 +132,12 @@ TypesEntry functions entry old new =
 
 -- ---- what is kept of plain values
 
--- of a sum what SUM or AVG keeps
+-- what SUM or AVG keeps: a sum, and how many numbers were added
 abbrev pub kept_sum : ColumnFunction → ℤ → ℕ → AccumulatorState
 kept_sum (function.Avg place) s n = averaged s n
 kept_sum f s n = summed s n
 
--- of a value what MIN or MAX keeps
+-- what MIN or MAX keeps: a value
 abbrev pub kept_extreme : ColumnFunction → Datum → AccumulatorState
 kept_extreme (function.Max place) d = highest d
 kept_extreme f d = lowest d
@@ -150,12 +150,12 @@ kept_state f (state.summed s n) = kept_sum f s n
 kept_state f (state.extreme d) = kept_extreme f d
 kept_state f (state.collected values) = collected (set_of values)
 
--- what set functions keep of a plain state each
+-- what each set function keeps of its plain state
 abbrev pub kept_states : List FilteredFunction → List FunctionState → List AccumulatorState
 kept_states [] ss = []
 kept_states (f ∷ fs) [] = []
 kept_states (f ∷ fs) (s ∷ ss) = kept_state f.function s ∷ kept_states fs ss
 
--- what is kept of a group of plain states
+-- what a table keeps of a group of plain states
 abbrev pub kept_group : List FilteredFunction → EntryForm → GroupState
 kept_group functions entry = record { lines = entry.members; parts = kept_states functions entry.states }
