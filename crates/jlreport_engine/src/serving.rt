@@ -221,7 +221,8 @@ fn execute<
     answer(rt, alloc, &plan, settings, reader, out, err)
 }
 
-/// Answers the query over the lines that a reader gives, or over those whose parts it gives, by a report or by a part.
+/// Answers the query over the lines that a reader gives, or over those whose parts it gives, by a report or by a part, and
+/// answers the status. Where a part is written it is 0, whether or not lines are refused.
 fn answer<R: Read + Drop + Send, O: Write, E: Write, H: Threads + Wait + Sync>(
     rt: &H,
     alloc: Global,
@@ -237,13 +238,13 @@ fn answer<R: Read + Drop + Send, O: Write, E: Write, H: Threads + Wait + Sync>(
             .map(report_status)
             .map_err(Ending::Run),
         (false, true) => run_partial(rt, alloc, plan, options, reader, out)
-            .map(part_status)
+            .map(|_| 0)
             .map_err(Ending::Run),
         (true, false) => run_join(rt, alloc, plan, options, reader, out, err)
             .map(report_status)
             .map_err(Ending::Join),
         (true, true) => join_partial(rt, alloc, plan, options, reader, out)
-            .map(part_status)
+            .map(|_| 0)
             .map_err(Ending::Join),
     }
 }
@@ -251,11 +252,6 @@ fn answer<R: Read + Drop + Send, O: Write, E: Write, H: Threads + Wait + Sync>(
 /// The status where a report is written: whether lines are refused.
 fn report_status(done: Done) -> u8 {
     if done.refused == 0 { 0 } else { 1 }
-}
-
-/// The status where a part is written, whether or not lines are refused.
-fn part_status(_done: Done) -> u8 {
-    0
 }
 
 /// Writes the explanation of a query.
