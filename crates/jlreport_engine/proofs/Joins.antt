@@ -2,7 +2,7 @@
 use Rattle.std.proofs.Common.{◌≡◌, ◌≢◌, ◌∙◌, ◌<◌, ℕ, List, length, Option, Some, None, Result, Ok, Err, refl, subst, sym, ap}
 use Rattle.std.proofs.KnownBytes.{Keeps-refl}
 use Rattle.std.specs.List.{flat_map}
-use Rattle.std.specs.Prelude.{IfErr, IfSome, IsErrAnd, IsNone, IsOk, MatchResult}
+use Rattle.std.specs.Prelude.{IfErr, IfOk, IfSome, IsErrAnd, IsNone, IsOk, MatchResult}
 use Rattle.lines.specs.Clip.{clip_lines}
 use Rattle.parts.specs.Faults.{PartedFault}
 use Rattle.parts.specs.Joining.{AnswersParts, IsReadAs}
@@ -122,6 +122,46 @@ over limit plan given partial (TooManyRefused most) is stands = record {
   started = λ no. let wrong = no in absurd cc;
   reads = nothing-said given (TooManyRefused most) (read_as plan);
 }
+
+-- ---- what a call that reads parts says, where its refusal becomes a fault
+
+-- what a call that reads parts says
+pub record IsRead (plan : PlannedQuery) (given : Option (List ℕ)) (r : Result PartialState PartsRefusal) : Type 0 where
+  pub sound : IfOk r (IsSoundUnder plan)
+  pub answers : IfSome given (λ bytes. AnswersParts plan (lines (clip_lines bytes)) r)
+  pub stands : IfSome given (λ bytes. (inputs : List (List ℕ)) → bytes ≡ flat_map (part_text plan.fields plan.query) inputs
+      → IfOk r (λ partial. StandsForInput plan.fields plan.query partial (concatenated inputs)))
+
+-- what holds of an answer holds where its fault is mapped
+pub of-mapped : {T E D : Type 0} (P : Result T E → Type 0) (r : Result T E) (s : Result T D) (Q : E → D → Type 0) (x : T) → MatchResult r (λ y. s ≡ Ok y) (λ e. IsErrAnd s (Q e)) → s ≡ Ok x
+    → P r → P (Ok x)
+of-mapped P (Ok y) s Q x is ok holds = subst P (let same = sym is ∙ ok in cc) holds
+of-mapped P (Err e) (Ok y) Q x is ok holds = absurd is
+of-mapped P (Err e) (Err d) Q x is ok holds = let wrong = ok in absurd cc
+
+pub of-read : (limit : Option ℕ) (plan : PlannedQuery) (given : Option (List ℕ)) (partial : PartialState) → IsRead plan given (Ok partial) → IsWithin limit partial.refused → IsJoined (Ok partial) limit plan given
+of-read limit plan given partial read within = joined limit plan given partial read.sound within read.stands read.answers
+
+pub of-refusal : (limit : Option ℕ) (plan : PlannedQuery) (given : Option (List ℕ)) (r : Result PartialState PartsRefusal) (s t : Result PartialState JoinFault) (fault : JoinFault)
+    → MatchResult r (λ y. s ≡ Ok y) (λ e. IsErrAnd s (λ d. d ≡ fault_of_parts e)) → s ≡ Err fault → IsErrAnd t (λ d. d ≡ fault)
+    → IsRead plan given r → IsJoined t limit plan given
+of-refusal limit plan given (Ok y) s t fault is err answer read = let wrong = sym is ∙ err in absurd cc
+of-refusal limit plan given (Err why) s (Ok z) fault is err answer read = absurd answer
+of-refusal limit plan given (Err why) (Ok y) (Err d) fault is err answer read = absurd is
+of-refusal limit plan given (Err why) (Err f) (Err d) fault is err answer read =
+    let same : fault_of_parts why ≡ d = let e = err in let a = answer in let i = is in cc in
+    subst (λ (x : JoinFault). IsJoined (Err x) limit plan given) same (refused limit plan given why read.answers)
+
+pub of-over : {X : Type 0} (limit : Option ℕ) (plan : PlannedQuery) (given : Option (List ℕ)) (partial : PartialState) (r : Result X RunFault) (s : Result X JoinFault)
+    (t : Result PartialState JoinFault) (fault : JoinFault)
+    → MatchResult r (λ y. s ≡ Ok y) (λ e. IsErrAnd s (λ d. d ≡ Run e)) → s ≡ Err fault → IsErrAnd t (λ d. d ≡ fault)
+    → IfErr r (IsOver limit partial.refused) → IsRead plan given (Ok partial) → IsJoined t limit plan given
+of-over limit plan given partial (Ok y) s t fault is err answer more read = let wrong = sym is ∙ err in absurd cc
+of-over limit plan given partial (Err f) s (Ok z) fault is err answer more read = absurd answer
+of-over limit plan given partial (Err f) (Ok y) (Err d) fault is err answer more read = absurd is
+of-over limit plan given partial (Err f) (Err e) (Err d) fault is err answer more read =
+    let same : Run f ≡ d = let h = err in let a = answer in let i = is in cc in
+    subst (λ (x : JoinFault). IsJoined (Err x) limit plan given) same (over limit plan given partial f more read.stands)
 
 -- ---- what is answered
 

@@ -7,11 +7,11 @@ pub returns-in-Ok-clause-run : goal.returns-in-Ok-clause-run
 returns-in-Ok-clause-run g c = λ limit known within stands.
     part-done _ limit c.args.plan.now.fields c.args.plan.now.query known c.args.whole c.as_slice.result.now
     (g.O.Write.contents c.args.out.now) (g.O.Write.contents c.put_and_flush.new.writer)
-    (record { lines = c.lines.ensures; refused = c.refused.ensures; within = within }) stands
+    (record { lines = c.lines.ensures.lines; refused = c.refused.ensures.refused; within = within }) stands
     (λ input of. c.as_slice.ensures.value ∙ c.in_ok-text.ensures input of) c.in-Ok.ensures.ok
 
-pub returns-in-Err-clause-run : goal.returns-in-Err-clause-run
-returns-in-Err-clause-run g c = λ limit known within stands.
+pub returns-clause-run : goal.returns-clause-run
+returns-clause-run g c = λ limit known within stands.
     part-unwritten limit c.args.plan.now.fields c.args.plan.now.query known c.args.whole c.as_slice.result.now
     (g.O.Write.contents c.args.out.now) (g.O.Write.contents c.put_and_flush.new.writer)
     within stands (λ input of. c.as_slice.ensures.value ∙ c.in_ok-text.ensures input of) c.in-Err.ensures.err

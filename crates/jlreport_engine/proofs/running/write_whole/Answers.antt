@@ -7,7 +7,7 @@ pub returns-clause-run : goal.returns-clause-run
 returns-clause-run g c = λ limit known within stands.
     run-done _ limit c.args.plan.now.fields c.args.plan.now.query known c.args.whole c.as_slice.result.now c.as_slice-2.result.now
     (g.O.Write.contents c.args.out.now) (g.O.Write.contents c.put_both.new.out) (g.E.Write.contents c.args.err.now) (g.E.Write.contents c.put_both.new.err)
-    (record { lines = c.lines.ensures; refused = c.refused.ensures; within = within }) stands
+    (record { lines = c.lines.ensures.lines; refused = c.refused.ensures.refused; within = within }) stands
     (record {
       report = λ input of. c.as_slice.ensures.value ∙ c.in_ok-texts.ensures.report input of;
       refusals = λ input of. c.as_slice-2.ensures.value ∙ c.in_ok-texts.ensures.refused input of;
