@@ -1,5 +1,5 @@
 -- What joins answer and leave, from what was read and written.
-use Rattle.std.proofs.Common.{◌≡◌, ◌≢◌, ◌∙◌, ◌<◌, ℕ, List, length, Option, Some, None, Result, Ok, Err, refl, subst, sym, ap}
+use Rattle.std.proofs.Common.{◌≡◌, ◌≢◌, ◌∙◌, ◌<◌, ℕ, List, Option, Some, None, Result, Ok, Err, refl, subst, sym, ap}
 use Rattle.std.proofs.KnownBytes.{Keeps-refl}
 use Rattle.std.specs.List.{flat_map}
 use Rattle.std.specs.Prelude.{IfErr, IfOk, IfSome, IsErrAnd, IsNone, IsOk, MatchResult}
@@ -14,7 +14,6 @@ use Rattle.semantics.specs.Columns.{Field}
 use Rattle.semantics.specs.Joins.{ArePartsOf, IsJoin, IsPartialJoin, IsPartialRun, run_answer}
 use Rattle.semantics.specs.Lines.{lines}
 use Rattle.semantics.specs.Parts.{ContentsForm, concatenated, part_text}
-use Rattle.semantics.specs.Records.{refused_lines}
 use Rattle.semantics.specs.Run.{IsRun, IsWithin}
 use Rattle.semantics.specs.Syntax.{TreeForm}
 use Rattle.semantics.specs.declared.join_fault.JoinFault.{JoinFault}

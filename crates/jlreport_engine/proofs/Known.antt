@@ -1,17 +1,13 @@
 -- What holds of an input that a result is known to stand for.
 use Rattle.std.proofs.Common.{◌≡◌, ◌∙◌, ◌≤◌, ℕ, List, length, Option, Some, None, refl, subst, sym, ap, arith}
 use Rattle.semantics.specs.Columns.{Field}
-use Rattle.semantics.specs.Conditions.{kept_records}
-use Rattle.semantics.specs.Found.{aggregate_functions, query_found}
-use Rattle.semantics.specs.GroupStates.{entries_over}
+use Rattle.semantics.specs.Found.{query_found}
 use Rattle.semantics.specs.Groups.{Row}
 use Rattle.semantics.specs.Lines.{lines}
 use Rattle.semantics.specs.Parts.{ContentsForm, contents_over, part_text, text_of, values_with, with_checksum}
 use Rattle.semantics.specs.Records.{refused_lines}
 use Rattle.semantics.specs.Run.{IsWithin, refusals, report}
-use Rattle.semantics.specs.Sets.{grouping_places}
 use Rattle.semantics.specs.Syntax.{TreeForm}
-use Rattle.semantics.specs.declared.line_fault.LineFault.{LineFault}
 use Rattle.lines.specs.Clip.{clip_lines}
 use Rattle.lines.proofs.Clips.{count-clip, refused-clip, valid-clip}
 use Rattle.report.specs.Report.{refusals_of, report_of}

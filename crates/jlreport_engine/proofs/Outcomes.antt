@@ -1,8 +1,8 @@
 -- What a run answers and leaves, from what it is known to have made and written.
-use Rattle.std.proofs.Common.{◌≡◌, ◌≢◌, ◌<◌, ◌∙◌, ℕ, List, length, Option, Some, None, Result, Ok, Err, refl, subst, sym, ap, arith}
+use Rattle.std.proofs.Common.{◌≡◌, ◌≢◌, ◌<◌, ◌∙◌, ℕ, List, length, Option, Some, None, Result, Ok, Err, refl, subst, sym, arith}
 use Rattle.std.proofs.KnownBytes.{Keeps-refl}
 use Rattle.std.specs.Io.KnownBytes.{Appends, Keeps}
-use Rattle.std.specs.Prelude.{◌↔◌, IfErr, IfSome, IsErrAnd, IsOk}
+use Rattle.std.specs.Prelude.{◌↔◌, IfSome, IsErrAnd, IsOk}
 use Rattle.semantics.specs.Columns.{Field}
 use Rattle.semantics.specs.Joins.{IsPartialRun, LeavesPart}
 use Rattle.semantics.specs.Parts.{part_text}

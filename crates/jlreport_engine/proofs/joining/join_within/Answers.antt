@@ -1,4 +1,4 @@
-use Rattle.std.proofs.Common.{sym, subst}
+use Rattle.std.proofs.Common.{subst}
 use Rattle.std.specs.Prelude.{IfErr, OnOk}
 use Rattle.semantics.specs.Run.{IsWithin}
 use Rattle.jlreport_engine.specs.Joined.{IsOver}
