@@ -32,18 +32,22 @@ abbrev pub IsOver : Option ℕ → ℕ → RunFault → Type 0
 IsOver limit count (TooManyRefused most) = (limit ≡ Some most) × (most < count)
 IsOver limit count fault = ⊥
 
--- Before anything is written a join fails by a fault of the parts, or as a run may over the inputs whose parts were given, one behind the other, and over some input.
+-- Before anything is written a join fails by a fault of the parts, or as a run may over the inputs whose parts were
+-- given, one behind the other, and over some input.
 abbrev pub StopsJoin : JoinFault → Option ℕ → List Field → TreeForm → Option (List ℕ) → Type 0
 StopsJoin (Parts fault) limit fields q given = ⊤
 StopsJoin (Run fault) limit fields q given =
-    StopsRun fault limit fields None × ((inputs : List (List ℕ)) → ArePartsOf fields q inputs given → StopsRun fault limit fields (Some (concatenated inputs)))
+    StopsRun fault limit fields None
+    × ((inputs : List (List ℕ)) → ArePartsOf fields q inputs given → StopsRun fault limit fields (Some (concatenated inputs)))
 
--- What was read is joined: the result is one that the plan can finish, not more of its lines are refused than the limit, and it stands for the inputs whose parts were given, one behind
--- the other. Or there is a fault, which is none of a thread.
+-- What was read is joined: the result is one that the plan can finish, not more of its lines are refused than the
+-- limit, and it stands for the inputs whose parts were given, one behind the other. Or there is a fault, which is
+-- none of a thread.
 pub record IsJoined (result : Result PartialState JoinFault) (limit : Option ℕ) (plan : PlannedQuery) (given : Option (List ℕ)) : Type 0 where
   pub sound : IfOk result (IsSoundUnder plan)
   pub within : IfOk result (λ partial. IsWithin limit partial.refused)
-  pub stands : IfOk result (λ partial. (inputs : List (List ℕ)) → ArePartsOf plan.fields plan.query inputs given → StandsForInput plan.fields plan.query partial (concatenated inputs))
+  pub stands : IfOk result (λ partial. (inputs : List (List ℕ)) → ArePartsOf plan.fields plan.query inputs given
+      → StandsForInput plan.fields plan.query partial (concatenated inputs))
   pub stops : IfErr result (λ fault. StopsJoin fault limit plan.fields plan.query given)
   pub started : IfErr result (λ fault. fault ≢ Run ThreadNotStarted)
   pub reads : IfSome given (λ bytes. IsReadAs result (parts_at plan.fields plan.query (lines (clip_lines bytes))))

@@ -25,13 +25,14 @@ pub record StandsForReading (fields : List Field) (q : TreeForm) (partial : Part
 abbrev pub StandsForKnown : List Field → TreeForm → Option (List ℕ) → PartialState → Type 0
 StandsForKnown fields q known partial = IfSome known (StandsForReading fields q partial)
 
--- What a fault says of the input, where that is known, before anything is written: that more of its lines are refused than the limit, where it says so; of a read, of memory and of a
--- thread it says nothing more.
+-- What a fault says of the input, where that is known, before anything is written: that more of its lines are refused
+-- than the limit, where it says so; of a read, of memory and of a thread it says nothing more.
 abbrev pub StopsRun : RunFault → Option ℕ → List Field → Option (List ℕ) → Type 0
 StopsRun Reading limit fields known = ⊤
 StopsRun OutOfMemory limit fields known = ⊤
 StopsRun ThreadNotStarted limit fields known = ⊤
-StopsRun (TooManyRefused most) limit fields known = (limit ≡ Some most) × IfSome known (λ input. most < length (refused_lines fields input))
+StopsRun (TooManyRefused most) limit fields known =
+    (limit ≡ Some most) × IfSome known (λ input. most < length (refused_lines fields input))
 StopsRun WritingReport limit fields known = ⊥
 StopsRun WritingRefused limit fields known = ⊥
 StopsRun WritingPart limit fields known = ⊥

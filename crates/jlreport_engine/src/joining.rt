@@ -21,11 +21,12 @@ use std::sync::Wait;
 use std::thread::Threads;
 use tables::{Executor, Parallel, Partial};
 
-/// Joins the parts that a reader gives, one behind the other: writes the report over all their inputs to `out` and flushes it,
-/// and then the list of refused lines to `err` and flushes it. This is what `run` writes of the inputs, one behind the other,
-/// each with its last line ended; the lines of each part are numbered behind those of the parts before it. As many threads as
-/// there are workers, the calling one among them, put the groups together and make the report. It answers how many lines and
-/// how many refused lines the inputs have. Nothing is written before all parts were read.
+/// Joins the parts that a reader gives, one behind the other: writes the report over all their inputs to `out` and
+/// flushes it, and then the list of refused lines to `err` and flushes it. This is what `run` writes of the inputs,
+/// one behind the other, each with its last line ended; the lines of each part are numbered behind those of the parts
+/// before it. As many threads as there are workers, the calling one among them, put the groups together and make the
+/// report. It answers how many lines and how many refused lines the inputs have. Nothing is written before all parts
+/// were read.
 ///
 /// Example: with the plan of `SELECT SUM(q) AS s FROM lines` under `q:int`, and as the input the part of the one line
 /// `{"q":5}` and behind it that of `{"q":2}`, `run_join(&rt, alloc, &plan, options, input, &mut out, &mut err)`, where it is
@@ -33,10 +34,11 @@ use tables::{Executor, Parallel, Partial};
 ///
 /// # Errors
 ///
-/// `Parts` where what was read is no parts of the columns and the query, one behind the other, with the first fault: then
-/// nothing was written. `Run` where the join fails as a run does: by `Reading`, `OutOfMemory` or `TooManyRefused`, and nothing
-/// was written; by `WritingReport`, and a beginning of the report was written, and nothing of the list; or by
-/// `WritingRefused`, and the report was written, and a beginning of the list. It never answers `ThreadNotStarted`.
+/// `Parts` where what was read is no parts of the columns and the query, one behind the other, with the first fault:
+/// then nothing was written. `Run` where the join fails as a run does: by `Reading`, `OutOfMemory` or
+/// `TooManyRefused`, and nothing was written; by `WritingReport`, and a beginning of the report was written, and
+/// nothing of the list; or by `WritingRefused`, and the report was written, and a beginning of the list. It never
+/// answers `ThreadNotStarted`.
 pub fn run_join<R: Read + Drop, O: Write, E: Write, H: Threads + Wait + Sync>(
     rt: &H,
     alloc: Global,
@@ -61,10 +63,10 @@ pub fn run_join<R: Read + Drop, O: Write, E: Write, H: Threads + Wait + Sync>(
     write_whole(&parallel, alloc, plan, whole, out, err).map_err(JoinFault::Run)
 }
 
-/// Joins the parts that a reader gives, one behind the other, to one: writes the part of all their inputs to `out` and flushes
-/// it. This is what `run_partial` writes of the inputs, one behind the other, each with its last line ended. As many threads as
-/// there are workers, the calling one among them, put the groups together. It answers how many lines and how many refused lines
-/// the inputs have. Nothing is written before all parts were read.
+/// Joins the parts that a reader gives, one behind the other, to one: writes the part of all their inputs to `out`
+/// and flushes it. This is what `run_partial` writes of the inputs, one behind the other, each with its last line
+/// ended. As many threads as there are workers, the calling one among them, put the groups together. It answers how
+/// many lines and how many refused lines the inputs have. Nothing is written before all parts were read.
 ///
 /// Example: with the plan of `SELECT SUM(q) AS s FROM lines` under `q:int`, and as the input the part of the one line
 /// `{"q":5}` and behind it that of `{"q":2}`, `join_partial(&rt, alloc, &plan, options, input, &mut out)`, where it is done,
@@ -72,9 +74,10 @@ pub fn run_join<R: Read + Drop, O: Write, E: Write, H: Threads + Wait + Sync>(
 ///
 /// # Errors
 ///
-/// `Parts` where what was read is no parts of the columns and the query, one behind the other, with the first fault: then
-/// nothing was written. `Run` where the join fails as a run to a part does: by `Reading`, `OutOfMemory` or `TooManyRefused`, and
-/// nothing was written; or by `WritingPart`, and a beginning of the part was written. It never answers `ThreadNotStarted`.
+/// `Parts` where what was read is no parts of the columns and the query, one behind the other, with the first fault:
+/// then nothing was written. `Run` where the join fails as a run to a part does: by `Reading`, `OutOfMemory` or
+/// `TooManyRefused`, and nothing was written; or by `WritingPart`, and a beginning of the part was written. It never
+/// answers `ThreadNotStarted`.
 pub fn join_partial<R: Read + Drop, O: Write, H: Threads + Wait + Sync>(
     rt: &H,
     alloc: Global,

@@ -106,8 +106,8 @@ pub fn run_alone<R: Read + Drop, O: Write, E: Write>(
     write_whole(&Serial, alloc, plan, whole, out, err)
 }
 
-/// Writes the report and the list of refused lines by a result. It does so as a run over the input that the result is known to
-/// stand for, if not more lines are refused than the limit.
+/// Writes the report and the list of refused lines by a result. It does so as a run over the input that the result is
+/// known to stand for, if not more lines are refused than the limit.
 pub(crate) fn write_whole<X: ReportExecutor, O: Write, E: Write>(
     executor: &X,
     alloc: Global,
