@@ -1,10 +1,7 @@
 //! Joins: from the parts that a reader gives to the report of all their inputs, or to the part of these.
 ghost use Rattle.std.specs.Prelude.{◌≡◌, ◌≢◌, IfErr, IfSome, OnOk};
-ghost use Rattle.lines.specs.Clip.{clip_lines};
-ghost use Rattle.parts.specs.Joining.{IsReadAs};
-ghost use Rattle.parts.specs.ReadingParts.{parts_at};
+ghost use Rattle.parts.specs.Joining.{IsReadOf};
 ghost use Rattle.semantics.specs.Joins.{IsJoin, IsPartialJoin};
-ghost use Rattle.semantics.specs.Lines.{lines};
 ghost use Rattle.semantics.specs.Run.{IsWithin};
 ghost use Rattle.jlreport_engine.specs.Joined.{IsJoined, IsOver, fault_of_parts};
 
@@ -52,7 +49,7 @@ pub fn run_join<R: Read + Drop, O: Write, E: Write, H: Threads + Wait + Sync>(
         (R.remaining reader) (O.contents out.old) (O.contents out.new)
         (E.contents err.old) (E.contents err.new) }
     ensures reads { IfSome (R.remaining reader) (λ bytes.
-        IsReadAs result (parts_at plan.now.fields plan.now.query (lines (clip_lines bytes)))) }
+        IsReadOf plan.now.fields plan.now.query bytes result) }
     ensures started { IfErr result (λ fault. fault ≢ JoinFault.Run RunFault.ThreadNotStarted) }
 {
     let parallel = Parallel {
@@ -89,7 +86,7 @@ pub fn join_partial<R: Read + Drop, O: Write, H: Threads + Wait + Sync>(
     ensures join { IsPartialJoin result options.max_refused plan.now.fields plan.now.query
         (R.remaining reader) (O.contents out.old) (O.contents out.new) }
     ensures reads { IfSome (R.remaining reader) (λ bytes.
-        IsReadAs result (parts_at plan.now.fields plan.now.query (lines (clip_lines bytes)))) }
+        IsReadOf plan.now.fields plan.now.query bytes result) }
     ensures started { IfErr result (λ fault. fault ≢ JoinFault.Run RunFault.ThreadNotStarted) }
 {
     let parallel = Parallel {

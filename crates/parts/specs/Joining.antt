@@ -2,7 +2,9 @@
 use Rattle.std.specs.Prelude.{◌≡◌, ◌≤◌, ◌++◌, ⊤, ℕ, List, length, map, Result, Ok, Err, IsOk}
 use Rattle.part_groups.specs.Reading.{Stream}
 use Rattle.query_plan.specs.Planned.{PlannedQuery}
+use Rattle.lines.specs.Clip.{clip_lines}
 use Rattle.semantics.specs.Columns.{Field}
+use Rattle.semantics.specs.Lines.{lines}
 use Rattle.semantics.specs.Syntax.{TreeForm}
 use Rattle.semantics.specs.declared.join_fault.JoinFault.{JoinFault}
 use Rattle.semantics.specs.declared.join_fault.JoinFault.TheVariants.{Parts, Run}
@@ -58,3 +60,7 @@ abbrev pub IsReadAs : {X : Type 0} → Result X JoinFault → Result (List Conte
 IsReadAs (Ok x) read = IsOk read
 IsReadAs (Err (Parts fault)) read = read ≡ Err (parted_of fault)
 IsReadAs (Err (Run fault)) read = ⊤
+
+-- So it is of what is read of bytes.
+abbrev pub IsReadOf : {X : Type 0} → List Field → TreeForm → List ℕ → Result X JoinFault → Type 0
+IsReadOf fields q bytes result = IsReadAs result (parts_at fields q (lines (clip_lines bytes)))
