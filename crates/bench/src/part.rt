@@ -48,7 +48,9 @@ fn work<R: Threads + Wait + Clock + Print + Eprint + Sync>(
     let read = start.elapsed(rt)?.as_nanos();
     println!(rt;
         "{} lines, {} refused, {} bytes",
-        again.lines(), again.refused(), part.len()
+        again.lines(),
+        again.refused(),
+        part.len()
     )?;
     eprintln!(rt; "{written} {read}")
 }

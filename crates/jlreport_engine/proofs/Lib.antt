@@ -1,4 +1,5 @@
 mod Fronts
 pub mod Explained
-pub mod Named
+pub mod Joins
+pub mod Known
 pub mod Outcomes

@@ -1,30 +1,38 @@
--- What a fault leaves after all of an input was worked on.
-use Rattle.std.specs.Prelude.{ℕ, List, Option}
-use Rattle.std.specs.Io.KnownBytes.{Appends, Keeps}
+-- What a result that was made says of the input that it stands for.
+use Rattle.std.specs.Prelude.{◌≡◌, ◌<◌, ⊤, ℕ, List, Option, Some, IfSome, length}
 use Rattle.semantics.specs.Columns.{Field}
+use Rattle.semantics.specs.Lines.{lines}
+use Rattle.semantics.specs.Records.{refused_lines, valid_records}
 use Rattle.semantics.specs.Syntax.{TreeForm}
-use Rattle.semantics.specs.Run.{AppendsBeginning, report, refusals}
+use Rattle.semantics.specs.declared.run_fault.RunFault.{RunFault}
+use Rattle.semantics.specs.declared.run_fault.RunFault.TheVariants.{Reading, OutOfMemory, ThreadNotStarted, TooManyRefused, WritingReport, WritingRefused, WritingPart}
 use Rattle.tables.specs.Partials.{StandsForInput}
 use Rattle.tables.specs.States.{PartialState}
-use Rattle.semantics.specs.declared.run_fault.RunFault.{RunFault}
-use Rattle.semantics.specs.declared.run_fault.RunFault.TheVariants.{Reading, OutOfMemory, ThreadNotStarted, TooManyRefused, WritingReport, WritingRefused}
 
--- ---- in the code
+-- Bytes are read as an input is: they have as many lines, the same good records and the same refused lines.
+pub record AreReadAs (fields : List Field) (bytes input : List ℕ) : Type 0 where
+  pub lines : length (lines bytes) ≡ length (lines input)
+  pub valid : valid_records fields bytes ≡ valid_records fields input
+  pub refused : refused_lines fields bytes ≡ refused_lines fields input
 
--- what a fault leaves after all of an input was worked on: nothing was written where memory was refused, and else what a failed write leaves of the two texts
-abbrev pub LeavesOfInput :
-    RunFault → List Field → TreeForm → List ℕ → (out_old out_new err_old err_new : Option (List ℕ)) → Type 0
-LeavesOfInput OutOfMemory fields q input out_old out_new err_old err_new = Keeps out_old out_new × Keeps err_old err_new
-LeavesOfInput Reading fields q input out_old out_new err_old err_new = ⊥
-LeavesOfInput ThreadNotStarted fields q input out_old out_new err_old err_new = ⊥
-LeavesOfInput (TooManyRefused most) fields q input out_old out_new err_old err_new = ⊥
-LeavesOfInput WritingReport fields q input out_old out_new err_old err_new =
-    AppendsBeginning out_old out_new (report fields q input) × Keeps err_old err_new
-LeavesOfInput WritingRefused fields q input out_old out_new err_old err_new =
-    Appends out_old out_new (report fields q input) × AppendsBeginning err_old err_new (refusals fields input)
+-- A result stands for bytes that are read as an input is.
+pub record StandsForReading (fields : List Field) (q : TreeForm) (partial : PartialState) (input : List ℕ) : Type 0 where
+  pub bytes : List ℕ
+  pub stands : StandsForInput fields q partial bytes
+  pub same : AreReadAs fields bytes input
 
--- what a fault leaves after a result was made, whatever input that stands for
-abbrev pub LeavesOfWhole :
-    RunFault → List Field → TreeForm → PartialState → (out_old out_new err_old err_new : Option (List ℕ)) → Type 0
-LeavesOfWhole fault fields q whole out_old out_new err_old err_new =
-    (input : List ℕ) → StandsForInput fields q whole input → LeavesOfInput fault fields q input out_old out_new err_old err_new
+-- So it does for the input, where that is known.
+abbrev pub StandsForKnown : List Field → TreeForm → Option (List ℕ) → PartialState → Type 0
+StandsForKnown fields q known partial = IfSome known (StandsForReading fields q partial)
+
+-- What a fault says of the input, where that is known, before anything is written: that more of its lines are refused
+-- than the limit, where it says so; of a read, of memory and of a thread it says nothing more.
+abbrev pub StopsRun : RunFault → Option ℕ → List Field → Option (List ℕ) → Type 0
+StopsRun Reading limit fields known = ⊤
+StopsRun OutOfMemory limit fields known = ⊤
+StopsRun ThreadNotStarted limit fields known = ⊤
+StopsRun (TooManyRefused most) limit fields known =
+    (limit ≡ Some most) × IfSome known (λ input. most < length (refused_lines fields input))
+StopsRun WritingReport limit fields known = ⊥
+StopsRun WritingRefused limit fields known = ⊥
+StopsRun WritingPart limit fields known = ⊥

@@ -5,8 +5,8 @@ use Rattle.semantics.specs.declared.run_fault.RunFault.{RunFault}
 use Rattle.semantics.specs.declared.run_fault.RunFault.TheVariants.{WritingReport, WritingRefused}
 use Rattle.semantics.specs.Run.{AppendsBeginning}
 
--- what a fault leaves where a report was to be written to one writer, and then a list of refused lines to another: a beginning of the report and nothing
--- of the list, or the report and a beginning of the list
+-- what a fault leaves where a report was to be written to one writer, and then a list of refused lines to another: a
+-- beginning of the report and nothing of the list, or the report and a beginning of the list
 abbrev pub LeavesWritten :
     RunFault → List ℕ → List ℕ → (out_old out_new err_old err_new : Option (List ℕ)) → Type 0
 LeavesWritten WritingReport report list out_old out_new err_old err_new =

@@ -2,12 +2,16 @@
 #![tactic(auto)]
 
 mod explaining;
+mod joining;
+mod parting;
 mod reporting;
 mod running;
 mod serving;
 mod writing;
 
+pub use joining::{join_partial, run_join};
+pub use parting::run_partial;
 pub use running::{run, run_alone};
-pub use semantics::{Done, RunFault};
+pub use semantics::{Done, JoinFault, RunFault};
 pub use serving::serve;
 pub use writing::put;

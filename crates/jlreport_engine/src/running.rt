@@ -1,9 +1,9 @@
 //! A run: from a reader to the report and the list of refused lines.
-ghost use Rattle.std.specs.Prelude.{◌≡◌, ◌≢◌, ℕ, List, IfErr, IfOk, OnOk};
-ghost use Rattle.std.specs.Io.KnownBytes.{Appends};
+ghost use Rattle.std.specs.Prelude.{◌≡◌, ◌≢◌, ℕ, List, Option, IfErr, IfOk};
 ghost use Rattle.tables.specs.Partials.{StandsForInput};
-ghost use Rattle.semantics.specs.Run.{IsRun, refusals, report};
-ghost use Rattle.jlreport_engine.specs.Run.{LeavesOfWhole};
+ghost use Rattle.tables.specs.Sound.{IsSoundUnder};
+ghost use Rattle.semantics.specs.Run.{IsRun, IsWithin, refusals, report};
+ghost use Rattle.jlreport_engine.specs.Run.{StandsForKnown};
 
 use crate::reporting::ReportExecutor;
 use crate::writing::put_both;
@@ -69,6 +69,7 @@ pub fn run<R: Read + Drop + Send, O: Write, E: Write, H: Threads + Wait + Sync>(
         → IfErr result (λ fault. fault ≢ RunFault.ThreadNotStarted) }
 {
     let whole = gather(rt, alloc, plan, options, reader)?;
+    sound_law();
     let parallel = Parallel {
         rt,
         workers: options.workers(),
@@ -101,11 +102,13 @@ pub fn run_alone<R: Read + Drop, O: Write, E: Write>(
     ensures started { IfErr result (λ fault. fault ≢ RunFault.ThreadNotStarted) }
 {
     let whole = gather_alone(alloc, plan, options, reader)?;
+    sound_law();
     write_whole(&Serial, alloc, plan, whole, out, err)
 }
 
-/// Writes the report and the list of refused lines by the result over an input.
-fn write_whole<X: ReportExecutor, O: Write, E: Write>(
+/// Writes the report and the list of refused lines by a result. It does so as a run over the input that the result is
+/// known to stand for, if not more lines are refused than the limit.
+pub(crate) fn write_whole<X: ReportExecutor, O: Write, E: Write>(
     executor: &X,
     alloc: Global,
     plan: &Plan,
@@ -114,19 +117,12 @@ fn write_whole<X: ReportExecutor, O: Write, E: Write>(
     err: &mut E,
 ) -> Result<Done, RunFault>
     requires ready { X.ready executor.now }
-    requires of_input { (input : List ℕ)
-        × StandsForInput plan.now.fields plan.now.query whole input }
-    ensures report { OnOk result ((input : List ℕ)
-        → StandsForInput plan.now.fields plan.now.query whole input
-        → Appends (O.contents out.old) (O.contents out.new)
-        (report plan.now.fields plan.now.query input)) }
-    ensures refusals { OnOk result ((input : List ℕ)
-        → StandsForInput plan.now.fields plan.now.query whole input
-        → Appends (E.contents err.old) (E.contents err.new) (refusals plan.now.fields input)) }
-    ensures lines { IfOk result (λ done. done.lines ≡ whole.lines) }
-    ensures refused { IfOk result (λ done. done.refused ≡ whole.refused) }
-    ensures fault { IfErr result (λ fault. LeavesOfWhole fault plan.now.fields plan.now.query
-        whole (O.contents out.old) (O.contents out.new) (E.contents err.old) (E.contents err.new)) }
+    requires sound { IsSoundUnder plan.now whole }
+    ensures run { (limit : Option ℕ) (known : Option (List ℕ)) → IsWithin limit whole.refused
+        → StandsForKnown plan.now.fields plan.now.query known whole
+        → IsRun result limit plan.now.fields plan.now.query known
+        (O.contents out.old) (O.contents out.new) (E.contents err.old) (E.contents err.new) }
+    ensures started { IfErr result (λ fault. fault ≢ RunFault.ThreadNotStarted) }
 {
     let done = Done {
         lines: whole.lines(),
@@ -157,8 +153,7 @@ fn texts_of<X: ReportExecutor>(
     partial: Partial,
 ) -> Result<Texts, AllocError>
     requires ready { X.ready executor.now }
-    requires of_input { (input : List ℕ)
-        × StandsForInput plan.now.fields plan.now.query partial input }
+    requires sound { IsSoundUnder plan.now partial }
     ensures report { IfOk result (λ texts. (input : List ℕ)
         → StandsForInput plan.now.fields plan.now.query partial input
         → texts.report.items ≡ report plan.now.fields plan.now.query input) }
@@ -166,7 +161,6 @@ fn texts_of<X: ReportExecutor>(
         → StandsForInput plan.now.fields plan.now.query partial input
         → texts.refused.items ≡ refusals plan.now.fields input) }
 {
-    sound_law();
     let groups = executor.groups(plan, partial)?;
     let report = executor.report(alloc, &groups, plan)?;
     let refused = refused_text(alloc, &groups, plan.schema())?;

@@ -7,12 +7,14 @@ ghost use Rattle.semantics.specs.Reading.{Derives};
 ghost use Rattle.semantics.specs.Explanation.{Explains, IsAnswerable, explanation};
 
 use crate::explaining::explanation;
+use crate::joining::{join_partial, run_join};
+use crate::parting::run_partial;
 use crate::running::run;
 use crate::writing::put_and_flush;
 use clap::error::ErrorKind;
 use jlreport_cli::{Settings, WordsFault};
 use query::{Plan, QueryFault, check, parse};
-use semantics::RunFault;
+use semantics::{Done, JoinFault, RunFault};
 use std::alloc::{AllocError, Global};
 use std::io::{Read, Write};
 use std::marker::{Send, Sync};
@@ -42,6 +44,9 @@ enum Ending {
     /// The run failed.
     #[error("{0}")]
     Run(RunFault),
+    /// The join failed.
+    #[error("{0}")]
+    Join(JoinFault),
 }
 
 impl Ending {
@@ -58,6 +63,7 @@ impl Ending {
             Ending::Query(fault) => query_status(fault),
             Ending::NotOpened => 3,
             Ending::Run(fault) => run_status(fault),
+            Ending::Join(fault) => join_status(fault),
         }
     }
 
@@ -103,19 +109,33 @@ fn run_status(fault: &RunFault) -> u8
     ensures { 2 ≤ result }
 {
     match fault {
-        RunFault::Reading | RunFault::WritingReport | RunFault::WritingRefused => 3,
+        RunFault::Reading
+        | RunFault::WritingReport
+        | RunFault::WritingRefused
+        | RunFault::WritingPart => 3,
         RunFault::OutOfMemory | RunFault::ThreadNotStarted => 4,
         RunFault::TooManyRefused(_) => 5,
     }
 }
 
+/// The status where a join fails.
+fn join_status(fault: &JoinFault) -> u8
+    ensures { 2 ≤ result }
+{
+    match fault {
+        JoinFault::Parts(_) => 6,
+        JoinFault::Run(fault) => run_status(fault),
+    }
+}
+
 /// Does what the words ask for, and answers the status that the program ends with: 0 where no line
-/// is refused or where help, the version or an explanation is asked for, 1 where some are, 2 where
-/// the words, the schema or the query are refused, 3 where the file cannot be opened or read or a
-/// text cannot be written, 4 where memory runs out or a thread cannot be started, 5 where more
-/// lines are refused than may be. The report, the explanation, help and the version go to `out`;
-/// the refused lines and what went wrong go to `err`. Where what went wrong cannot be written there, the status alone
-/// tells it.
+/// is refused, where a part is written, or where help, the version or an explanation is asked for; 1
+/// where some lines are refused; 2 where the words, the schema or the query are refused; 3 where the
+/// file cannot be opened or read or a text cannot be written; 4 where memory runs out or a thread
+/// cannot be started; 5 where more lines are refused than may be; 6 where parts are to be joined and
+/// what was read is no parts of the columns and the query. The report, a part, the explanation, help
+/// and the version go to `out`; the refused lines and what went wrong go to `err`. Where what went wrong cannot be written
+/// there, the status alone tells it.
 ///
 /// `opener` answers the reader of the file of a path, or `None` where it cannot be opened. It has
 /// to be such that it can always be called; it is called once at most, only once the words, the
@@ -169,7 +189,7 @@ fn plan_of(alloc: Global, settings: Settings<'_>) -> Result<Plan, Ending>
     check(alloc, query, schema).map_err(Ending::Query)
 }
 
-/// Executes what is asked for: explains the query, or answers it over the file.
+/// Executes what is asked for: explains the query, or answers it over the file or joins the parts in it.
 fn execute<
     R: Read + Drop + Send,
     O: Write,
@@ -198,8 +218,40 @@ fn execute<
     let Some(reader) = opener(settings.file) else {
         return Err(Ending::NotOpened);
     };
-    let done = run(rt, alloc, &plan, settings.options, reader, out, err).map_err(Ending::Run)?;
-    Ok(if done.refused == 0 { 0 } else { 1 })
+    answer(rt, alloc, &plan, settings, reader, out, err)
+}
+
+/// Answers the query over the lines that a reader gives, or over those whose parts it gives, by a report or by a part, and
+/// answers the status. Where a part is written it is 0, whether or not lines are refused.
+fn answer<R: Read + Drop + Send, O: Write, E: Write, H: Threads + Wait + Sync>(
+    rt: &H,
+    alloc: Global,
+    plan: &Plan,
+    settings: Settings<'_>,
+    reader: R,
+    out: &mut O,
+    err: &mut E,
+) -> Result<u8, Ending> {
+    let options = settings.options;
+    match (settings.join, settings.partial) {
+        (false, false) => run(rt, alloc, plan, options, reader, out, err)
+            .map(report_status)
+            .map_err(Ending::Run),
+        (false, true) => run_partial(rt, alloc, plan, options, reader, out)
+            .map(|_| 0)
+            .map_err(Ending::Run),
+        (true, false) => run_join(rt, alloc, plan, options, reader, out, err)
+            .map(report_status)
+            .map_err(Ending::Join),
+        (true, true) => join_partial(rt, alloc, plan, options, reader, out)
+            .map(|_| 0)
+            .map_err(Ending::Join),
+    }
+}
+
+/// The status where a report is written: whether lines are refused.
+fn report_status(done: Done) -> u8 {
+    if done.refused == 0 { 0 } else { 1 }
 }
 
 /// Writes the explanation of a query.

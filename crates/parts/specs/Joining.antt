@@ -1,9 +1,13 @@
 -- What the result of all parts is.
-use Rattle.std.specs.Prelude.{◌≡◌, ◌≤◌, ◌++◌, ⊤, ℕ, List, length, map, Result, Ok, Err}
+use Rattle.std.specs.Prelude.{◌≡◌, ◌≤◌, ◌++◌, ⊤, ℕ, List, length, map, Result, Ok, Err, IsOk}
 use Rattle.part_groups.specs.Reading.{Stream}
 use Rattle.query_plan.specs.Planned.{PlannedQuery}
+use Rattle.lines.specs.Clip.{clip_lines}
 use Rattle.semantics.specs.Columns.{Field}
+use Rattle.semantics.specs.Lines.{lines}
 use Rattle.semantics.specs.Syntax.{TreeForm}
+use Rattle.semantics.specs.declared.join_fault.JoinFault.{JoinFault}
+use Rattle.semantics.specs.declared.join_fault.JoinFault.TheVariants.{Parts, Run}
 use Rattle.semantics.specs.Parts.{ContentsForm, contents_over, concatenated}
 use Rattle.tables.specs.Partials.{StandsForInput}
 use Rattle.tables.specs.States.{PartialState}
@@ -47,3 +51,16 @@ AnswersParts plan ls (Ok partial) = IsJoin plan ls partial
 AnswersParts plan ls (Err (refusal.Fault fault)) = parts_at plan.fields plan.query ls ≡ Err (parted_of fault)
 AnswersParts plan ls (Err refusal.Reading) = ⊤
 AnswersParts plan ls (Err refusal.OutOfMemory) = ⊤
+
+-- ---- what a join says of a reading
+
+-- Where a join is done, what was read is parts; a fault of the parts that it answers is their first one; of
+-- another fault nothing is said.
+abbrev pub IsReadAs : {X : Type 0} → Result X JoinFault → Result (List ContentsForm) PartedFault → Type 0
+IsReadAs (Ok x) read = IsOk read
+IsReadAs (Err (Parts fault)) read = read ≡ Err (parted_of fault)
+IsReadAs (Err (Run fault)) read = ⊤
+
+-- So it is of what is read of bytes.
+abbrev pub IsReadOf : {X : Type 0} → List Field → TreeForm → List ℕ → Result X JoinFault → Type 0
+IsReadOf fields q bytes result = IsReadAs result (parts_at fields q (lines (clip_lines bytes)))

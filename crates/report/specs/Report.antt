@@ -1,9 +1,8 @@
--- The report of a query on the groups that its grouping sets find, the list of refused lines, and which faults name a column.
+-- The report of a query on the groups that its grouping sets find, and the list of refused lines.
 use Rattle.std.specs.List.{flat_map}
-use Rattle.std.specs.Prelude.{◌<◌, ℕ, ⊤, List, length}
+use Rattle.std.specs.Prelude.{ℕ, List}
 use Rattle.semantics.specs.Columns.{Field}
 use Rattle.semantics.specs.declared.line_fault.LineFault.{LineFault}
-use Rattle.semantics.specs.declared.line_fault.LineFault.TheVariants.{TooLong, NoJson, NoObject, BadValue}
 use Rattle.semantics.specs.Syntax.{TreeForm}
 use Rattle.semantics.specs.Found.{Found}
 use Rattle.semantics.specs.Order.{rows_shown}
@@ -16,10 +15,3 @@ report_of fields t found = report_bytes t.items (rows_shown fields t found)
 -- the bytes of the list of refused lines
 abbrev pub refusals_of : List Field → List (ℕ × LineFault) → List ℕ
 refusals_of fields refused = flat_map (refused_line fields) refused
-
--- the column that a fault names is in the schema
-abbrev pub NamesColumn : List Field → LineFault → Type 0
-NamesColumn fields TooLong = ⊤
-NamesColumn fields NoJson = ⊤
-NamesColumn fields NoObject = ⊤
-NamesColumn fields (BadValue place) = place < length fields

@@ -1,7 +1,7 @@
 //! The list of refused lines.
-ghost use Rattle.std.specs.Prelude.{◌≡◌, ◌<◌, ◌++◌, All, IfOk, OnOk, codes, decimal, length};
+ghost use Rattle.std.specs.Prelude.{◌≡◌, ◌++◌, IfOk, OnOk, codes, decimal};
 ghost use Rattle.semantics.specs.Canonical.{name_at};
-ghost use Rattle.report.specs.Report.{NamesColumn, refusals_of};
+ghost use Rattle.report.specs.Report.{refusals_of};
 ghost use Rattle.semantics.specs.Texts.{fault_text, refused_line};
 
 use itoa::Buffer;
@@ -13,7 +13,7 @@ use values::Schema;
 /// The bytes of the list of refused lines: for each, in the order given, `line N: ` and what is wrong with it, ended by
 /// a line feed. There are none where no line is refused. N is the number of the line in the input, from 1.
 ///
-/// Each fault that names a column by its place names one of the schema.
+/// A fault at the place of a column is said to be in the column of this name, and in one without a name where there is none.
 ///
 /// Example: under the columns `shop:text,cents:int`, line 2 with `NoJson` and line 5 with `BadValue(1)` give
 /// `line 2: not JSON` and `line 5: bad value in column cents`, each ended by a line feed.
@@ -22,7 +22,6 @@ use values::Schema;
 ///
 /// `AllocError` where there is no memory for the text.
 pub fn refused_text(alloc: Global, groups: &Groups, schema: &Schema) -> Result<Vec<u8>, AllocError>
-    requires { All (λ refused. NamesColumn schema.now refused.1) groups.now.refused }
     ensures { IfOk result (λ text. text.items ≡ refusals_of schema.now groups.now.refused) }
 {
     let mut text = Vec::new(alloc);
@@ -39,7 +38,6 @@ fn push_line(
     number: u64,
     fault: LineFault,
 ) -> Result<(), AllocError>
-    requires { NamesColumn schema.now fault }
     ensures { OnOk result (text.new.items
         ≡ text.old.items ++ refused_line schema.now (number, fault)) }
 {
@@ -61,7 +59,6 @@ fn push_number(text: &mut Vec<u8>, number: u64) -> Result<(), AllocError>
 
 /// Adds what is wrong with a line.
 fn push_fault(text: &mut Vec<u8>, schema: &Schema, fault: LineFault) -> Result<(), AllocError>
-    requires { NamesColumn schema.now fault }
     ensures { OnOk result (text.new.items ≡ text.old.items ++ fault_text schema.now fault) }
 {
     match fault {
@@ -81,10 +78,12 @@ fn push_bad_value(text: &mut Vec<u8>, name: &str) -> Result<(), AllocError>
     text.extend_from_slice(name.as_bytes())
 }
 
-/// The name of the column at a place.
+/// The name of the column at a place, and nothing where there is no column.
 fn column_name(schema: &Schema, place: usize) -> &str
-    requires { place < length schema.now }
     ensures { result.now ≡ name_at schema.now place }
 {
-    schema.columns()[place].name.as_str()
+    match schema.columns().get(place) {
+        Some(column) => column.name.as_str(),
+        None => "",
+    }
 }

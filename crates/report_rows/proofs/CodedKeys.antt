@@ -23,7 +23,7 @@ use Rattle.query_plan.specs.Planned.{PlannedQuery}
 use Rattle.report_rows.specs.declared.source.Source.{Source}
 use Rattle.report_rows.specs.declared.source.Source.TheVariants.{KeyAt, CellAt, Always}
 use Rattle.report_rows.specs.Sources.{AreKeySources, AreSourcesFor, key_expressions, shown_at, sources_at}
-use Rattle.report_rows.specs.Inside.SortEntries.{AreEnough, HasKeyOf, are_default_behind, are_default_from, before_under, is_default_at, is_key_at}
+use Rattle.report_rows.specs.Inside.SortEntries.{AreEnough, HasKeyOf, are_default_behind, are_default_from, is_default_at, is_key_at}
 use Rattle.report_rows.proofs.Maps.{map-twice}
 use Rattle.report_rows.proofs.RowCodes.{by_key, under_values}
 use Rattle.report_rows.proofs.Rows.{later, same-length, same-order}
@@ -204,10 +204,6 @@ enough-keys plan all count each single e x y fx fy =
     ap (ordering_then first) (order ∙ sym nothing)
     ∙ then-again first (under_keys fields t behind x y) (by_key x y)
     ∙ (λ i. ordering_then (sym (parted fields t x y count t.keys) i) (sym order i))
-
--- all of them always are
-pub all-enough : (fields : List Field) (t : TreeForm) (count : ℕ) → take count t.keys ≡ t.keys → AreEnough count fields t
-all-enough fields t count all x y fx fy = ap (λ (ks : List KeyForm). before_under ks fields t x y) all
 
 -- ---- the loop
 

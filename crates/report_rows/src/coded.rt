@@ -1,7 +1,7 @@
-//! How many keys of ORDER BY the codes of rows are of.
+//! Which keys of ORDER BY stand in the codes of rows.
 //!
-//! The last part of a code are the values of the group's key. Where there is one grouping set, keys that say the same as the
-//! first of these values are left out in front of them, and the order is the same.
+//! A code ends with the values of the group's key. Where there is one grouping set, keys that say the same as the first of
+//! these values need not stand in front of them: the order is the same without them.
 ghost use Rattle.std.specs.Prelude.{◌≡◌, ◌<◌, ℕ, true, false, length, map};
 ghost use Rattle.query_ast.specs.Syntax.{key_form};
 ghost use Rattle.report_rows.specs.Sources.{AreKeySources};
@@ -11,10 +11,10 @@ use crate::source::{Source, sources_at};
 use crate::view::PlanView;
 use query_plan::Key;
 
-/// How many of the first keys of ORDER BY codes are of, where the rows of each grouping set have the values of the keys at
-/// these sources. With several grouping sets they are all keys, since the index of a set stands in front of a group's key.
+/// How many keys of ORDER BY, from the first, stand in codes, where the rows of each grouping set have the values of the
+/// keys at these sources. With several grouping sets all do, since the index of a set stands in front of the group's key.
 ///
-/// Example: under GROUP BY a, b they are none for ORDER BY a, b, and one for ORDER BY COUNT(*) DESC, a.
+/// Example: under GROUP BY a, b none does for ORDER BY a, b, and one for ORDER BY COUNT(*) DESC, a.
 pub(crate) fn coded_keys(plan: &PlanView<'_>, sources: &[Vec<Source>]) -> usize
     requires { AreKeySources plan.now sources.now }
     ensures { AreEnough result plan.now.fields plan.now.query }
@@ -26,8 +26,8 @@ pub(crate) fn coded_keys(plan: &PlanView<'_>, sources: &[Vec<Source>]) -> usize
     keys_in_front(keys, sources_at(sources, 0))
 }
 
-/// How many keys of ORDER BY stand in front of those that are the beginning of the default order of one grouping set, of as
-/// many as can be.
+/// How many keys of ORDER BY are left without the last ones that are the beginning of the default order of one grouping set:
+/// as few as can be. There is a source for each key.
 fn keys_in_front(keys: &[Key], sources: &[Source]) -> usize
     requires { length keys.now ≡ length sources.now }
     ensures behind { are_default_behind result (map key_form keys.now) sources.now ≡ true }
@@ -43,7 +43,7 @@ fn keys_in_front(keys: &[Key], sources: &[Source]) -> usize
 }
 
 /// Whether keys of ORDER BY are the beginning of the default order of one grouping set, where its rows have their values at
-/// these sources.
+/// these sources. There is a source for each key.
 fn are_default(keys: &[Key], sources: &[Source]) -> bool
     requires { length keys.now ≡ length sources.now }
     ensures { result ≡ are_default_from 0 (map key_form keys.now) sources.now }

@@ -1,5 +1,6 @@
 //! A module for each subject.
 
+mod joining;
 mod results;
 mod rounds;
 mod running;

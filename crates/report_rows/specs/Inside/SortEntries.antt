@@ -89,7 +89,8 @@ are_default_behind count ks sources = are_default_from 0 (drop count ks) (drop c
 abbrev pub HasKeyOf : List Field → TreeForm → Found → Type 0
 HasKeyOf fields t row = (row.0 < length (sets_of fields t)) × (length row.1.key ≡ length (set_of fields t row))
 
--- how two rows stand to each other under these keys, then by the index of their grouping set, and in one set by what they show for the grouping columns
+-- how two rows stand to each other under these keys, then by the index of their grouping set, and in one set by what they
+-- show for the grouping columns
 abbrev pub before_under : List KeyForm → List Field → TreeForm → Found → Found → Ordering
 before_under ks fields t x y = ordering_then (under_keys fields t ks x y) (ordering_then (nat_cmp x.0 y.0) (slice_cmp value_order (grouping_values fields t x) (grouping_values fields t y)))
 

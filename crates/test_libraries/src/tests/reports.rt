@@ -1,10 +1,8 @@
 //! The report and the refused list of one input, and the laws.
-ghost use Rattle.std.specs.Prelude.{All, IfOk, IsTrue};
-ghost use Rattle.report.specs.Report.{NamesColumn};
+ghost use Rattle.std.specs.Prelude.{IfOk};
 ghost use Rattle.tables.specs.Partials.{IsPartialOf};
 ghost use Rattle.tables.specs.Planned.{IsFinishOf};
 
-use lines::LineFault;
 use query::{Plan, check, parse};
 use report::{
     arrange, arranged_law, order_law, refused_text, report_among, report_on, report_text,
@@ -28,17 +26,6 @@ fn plan_if_any(alloc: Global) -> Option<Plan> {
             None
         }
     }
-}
-
-/// Whether the columns that faults name are in the schema.
-fn are_named(groups: &Groups, schema: &Schema) -> bool
-    ensures { IsTrue result → All (λ line. NamesColumn schema.now line.1) groups.now.refused }
-{
-    let width = schema.columns().len();
-    groups.refused().iter().all(|(_, fault)| match fault {
-        LineFault::BadValue(place) => *place < width,
-        LineFault::TooLong | LineFault::NoJson | LineFault::NoObject => true,
-    })
 }
 
 /// Lines of which some are refused. One text begins as the sign of NULL does, and one has quotes.
@@ -76,7 +63,7 @@ fn finish(plan: &Plan, partial: Partial) -> Result<Groups, AllocError>
     partial.finish(plan)
 }
 
-/// What is written of the lines: the report, and the list if all columns that it is to name are in the schema.
+/// What is written of the lines: the report, and the list.
 fn write_texts<H: Threads + Sync>(rt: &H, alloc: Global, plan: &Plan) -> Result<Texts, AllocError> {
     let partial = Partial::fold_piece(alloc, plan, 0, LINES)?;
     let groups = finish(plan, partial)?;
@@ -85,11 +72,7 @@ fn write_texts<H: Threads + Sync>(rt: &H, alloc: Global, plan: &Plan) -> Result<
     let rows = arrange(alloc, &groups, plan)?;
     let report_of_rows = report_text(alloc, &rows, plan)?;
     let schema = plan.schema();
-    let list = if are_named(&groups, schema) {
-        refused_text(alloc, &groups, schema)?
-    } else {
-        Vec::new(alloc)
-    };
+    let list = refused_text(alloc, &groups, schema)?;
     Ok(Texts {
         report,
         report_by_hands,

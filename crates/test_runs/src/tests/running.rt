@@ -396,6 +396,7 @@ fn prints_faults(rt: HostRuntime) -> Result<(), Fail> {
         (RunFault::TooManyRefused(3), "more than 3 refused lines"),
         (RunFault::WritingReport, "writing the report failed"),
         (RunFault::WritingRefused, "writing the refused lines failed"),
+        (RunFault::WritingPart, "writing the part failed"),
     ];
     for (fault, wanted) in texts {
         let printed = fault.to_string(rt.alloc())?;

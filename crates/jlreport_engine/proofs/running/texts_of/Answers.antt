@@ -1,25 +1,10 @@
-use Rattle.std.proofs.Common.{◌∙◌, ap, map, subst, sym}
-use Rattle.std.specs.List.{All}
+use Rattle.std.proofs.Common.{◌∙◌, ap, map, sym}
 use Rattle.semantics.specs.Records.{valid_records}
 use Rattle.semantics.specs.Found.{query_found}
-use Rattle.report.specs.Report.{NamesColumn, refusals_of}
+use Rattle.report.specs.Report.{refusals_of}
 use Rattle.semantics.specs.Rows.{row_shown}
 use Rattle.semantics.specs.Texts.{report_bytes}
-use Rattle.jlreport_engine.proofs.Named.{refused-named}
 use Rattle.jlreport_engine.proofs.running.texts_of.Goals as goal
-
-pub groups-requires-clause-sound : goal.groups-requires-clause-sound
-groups-requires-clause-sound g c =
-    let whole = c.requires.of_input.1 in
-    c.sound_law.ensures c.args.plan.now c.args.partial ∣ (whole.pieces, whole.stands) ∣₁
-
-pub refused_text-requires : goal.refused_text-requires
-refused_text-requires g c =
-    let plan = c.args.plan.now in
-    let whole = c.requires.of_input.1 in
-    let is = c.in_ok-groups.ensures.whole c.requires.of_input.0 whole.pieces whole.stands whole.cut in
-    subst (λ fields. All (λ line. NamesColumn fields line.1) c.in_ok-groups.groups.refused) (sym c.schema.ensures.schema)
-    (subst (λ refused. All (λ line. NamesColumn plan.fields line.1) refused) (sym is.refused) (refused-named plan.fields c.requires.of_input.0))
 
 pub returns-clause-report : goal.returns-clause-report
 returns-clause-report g c = λ input whole.

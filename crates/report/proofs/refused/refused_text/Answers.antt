@@ -1,9 +1,8 @@
-use Rattle.std.proofs.Common.{[], ◌≡◌, ◌≤◌, ◌+◌, ◌∙◌, ◌++◌, All, ℕ, List, ap, get_or, length, subst, sym, take, take_all}
+use Rattle.std.proofs.Common.{[], ◌≡◌, ◌≤◌, ◌+◌, ◌∙◌, ◌++◌, ℕ, List, ap, get_or, length, subst, sym, take, take_all}
 use Rattle.std.proofs.lemmas.List.{flat_map_more, take_more}
 use Rattle.std.specs.List.{flat_map}
 use Rattle.semantics.specs.declared.line_fault.LineFault.{LineFault}
 use Rattle.semantics.specs.declared.line_fault.LineFault.TheVariants.{TooLong}
-use Rattle.report.specs.Report.{NamesColumn}
 use Rattle.semantics.specs.Texts.{refused_line}
 use Rattle.report.proofs.refused.refused_text.Goals as goal
 
@@ -19,10 +18,6 @@ loop-number-preserved c =
     ∙ flat_map_more line [] (take i lines) next
     ∙ ap (flat_map line) (sym (take_more lines i (0, TooLong) c.loop-number-test.true))
     ∙ ap (λ (xs : List (ℕ × LineFault)). flat_map line (take (i + 1) xs)) is
-
-pub push_line-requires : goal.push_line-requires
-push_line-requires c =
-    subst (All (λ (refused : ℕ × LineFault). NamesColumn c.args.schema.now refused.1)) (sym c.refused-number-items.ensures) c.requires c.loop-number.number-index (0, TooLong) c.loop-number-test.true
 
 pub returns : goal.returns
 returns c =

@@ -1,0 +1,140 @@
+//! Parts of shards, and their joins: what these write, and where a read or a write fails.
+use super::running::{BY_D, BY_D_REPORT, By, make_plan};
+use super::streams::{Pause, Sink, Source};
+use jlreport_cli::Options;
+use jlreport_engine::{Done, JoinFault, RunFault, join_partial, run_join, run_partial};
+use query::Plan;
+use std::alloc::Global;
+use std::io::ErrorKind;
+use std::marker::Sync;
+use std::process::Abort;
+use std::sync::Wait;
+use std::thread::Threads;
+
+/// Two shards, and both as one input. A line of the second one is refused, and its last one has no line feed.
+const FIRST: &[u8] = b"{\"d\":\"x\",\"r\":\"n\",\"q\":5}\n{\"d\":\"x\",\"r\":null,\"q\":2}\n";
+
+const SECOND: &[u8] = b"[1]\n{\"d\":\"y\",\"r\":\"n\"}";
+
+const BOTH: &[u8] =
+    b"{\"d\":\"x\",\"r\":\"n\",\"q\":5}\n{\"d\":\"x\",\"r\":null,\"q\":2}\n[1]\n{\"d\":\"y\",\"r\":\"n\"}\n";
+
+/// The list of refused lines, and what is answered.
+const REFUSED: &[u8] = b"line 3: not an object\n";
+
+const DONE: Done = Done {
+    lines: 4,
+    refused: 1,
+};
+
+/// The part of an input.
+fn part_of(
+    rt: &(impl Abort + Threads + Wait + Sync),
+    alloc: Global,
+    (plan, options): (&Plan, Options),
+    input: &[u8],
+) -> Vec<u8> {
+    let mut part = Vec::new(alloc);
+    let met = run_partial(rt, alloc, plan, options, input, &mut part);
+    assert!(rt; met.is_ok(), "{met:?}");
+    part
+}
+
+/// The parts of the two shards, one behind the other.
+fn parts(
+    rt: &(impl Abort + Threads + Wait + Sync),
+    alloc: Global,
+    (plan, options): (&Plan, Options),
+) -> Vec<u8> {
+    let mut parts = part_of(rt, alloc, (plan, options), FIRST);
+    let second = part_of(rt, alloc, (plan, options), SECOND);
+    assert!(rt; parts.extend_from_slice(second.as_slice()).is_ok());
+    parts
+}
+
+/// The report and the part of both shards, on the calling thread and by three workers.
+#[test]
+fn joins(rt: HostRuntime) {
+    let plan = make_plan(&rt, rt.alloc(), BY_D);
+    for workers in [1, 3] {
+        let options = By::Workers(workers).options(&rt, 7, None);
+        let given = parts(&rt, rt.alloc(), (&plan, options));
+        let reader = Source::whole(given.as_slice(), 5);
+        let (mut out, mut err) = (Vec::new(rt.alloc()), Vec::new(rt.alloc()));
+        let met = run_join(&rt, rt.alloc(), &plan, options, reader, &mut out, &mut err);
+        assert!(rt; met == Ok(DONE), "{met:?}");
+        assert!(rt; out.as_slice() == BY_D_REPORT && err.as_slice() == REFUSED);
+        let reader = Source::whole(given.as_slice(), 5);
+        let mut part = Vec::new(rt.alloc());
+        let met = join_partial(&rt, rt.alloc(), &plan, options, reader, &mut part);
+        assert!(rt; met == Ok(DONE), "{met:?}");
+        assert!(rt; part == part_of(&rt, rt.alloc(), (&plan, options), BOTH));
+    }
+    drop(plan);
+}
+
+/// The limit is that of the lines of both shards.
+#[test]
+fn limit_of_joins(rt: HostRuntime) {
+    let plan = make_plan(&rt, rt.alloc(), BY_D);
+    let free = By::Alone.options(&rt, 7, None);
+    let given = parts(&rt, rt.alloc(), (&plan, free));
+    let options = By::Alone.options(&rt, 7, Some(0));
+    let (mut out, mut err) = (Vec::new(rt.alloc()), Vec::new(rt.alloc()));
+    let reader = given.as_slice();
+    let met = run_join(&rt, rt.alloc(), &plan, options, reader, &mut out, &mut err);
+    assert!(rt; met == Err(JoinFault::Run(RunFault::TooManyRefused(0))), "{met:?}");
+    assert!(rt; out.is_empty() && err.is_empty());
+    let met = run_partial(&rt, rt.alloc(), &plan, options, BOTH, &mut out);
+    assert!(rt; met == Err(RunFault::TooManyRefused(0)), "{met:?}");
+    assert!(rt; out.is_empty());
+    drop(plan);
+}
+
+/// Nothing is written where a read fails within the second part, or where the last line is gone.
+#[test]
+fn joins_that_are_not_read(rt: HostRuntime) {
+    let plan = make_plan(&rt, rt.alloc(), BY_D);
+    let options = By::Alone.options(&rt, 7, None);
+    let given = parts(&rt, rt.alloc(), (&plan, options));
+    let bytes = given.as_slice();
+    let (front, behind) = bytes.split_at(bytes.len().min(300));
+    let reader = Source {
+        front,
+        pause: Pause::Error(ErrorKind::Other),
+        behind,
+        at_once: 7,
+    };
+    let (mut out, mut err) = (Vec::new(rt.alloc()), Vec::new(rt.alloc()));
+    let met = run_join(&rt, rt.alloc(), &plan, options, reader, &mut out, &mut err);
+    assert!(rt; met == Err(JoinFault::Run(RunFault::Reading)), "{met:?}");
+    let met = run_join(&rt, rt.alloc(), &plan, options, front, &mut out, &mut err);
+    match met {
+        Err(JoinFault::Parts(fault)) => assert_eq!(rt; fault.part, 2),
+        Ok(_) | Err(JoinFault::Run(_)) => panic!(rt; "another answer"),
+    }
+    assert!(rt; out.is_empty() && err.is_empty());
+    drop(plan);
+}
+
+/// A beginning of a part is written to a writer that takes a few bytes and then fails.
+#[test]
+fn parts_that_are_not_written(rt: HostRuntime) {
+    let plan = make_plan(&rt, rt.alloc(), BY_D);
+    let options = By::Workers(2).options(&rt, 7, None);
+    for (room, flushes) in [(3, true), (100_000, false)] {
+        let mut out = Sink {
+            room,
+            at_once: 2,
+            pause: Pause::Error(ErrorKind::BrokenPipe),
+            flushes,
+            taken: Vec::new(rt.alloc()),
+        };
+        let met = run_partial(&rt, rt.alloc(), &plan, options, BOTH, &mut out);
+        assert!(rt; met == Err(RunFault::WritingPart), "{met:?}");
+        let part = part_of(&rt, rt.alloc(), (&plan, options), BOTH);
+        assert!(rt; part.starts_with(out.taken.as_slice()));
+        assert!(rt; out.taken.len() == room.min(part.len()));
+    }
+    drop(plan);
+}
