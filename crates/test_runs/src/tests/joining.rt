@@ -83,7 +83,10 @@ fn limit_of_joins(rt: HostRuntime) {
     let (mut out, mut err) = (Vec::new(rt.alloc()), Vec::new(rt.alloc()));
     let reader = given.as_slice();
     let met = run_join(&rt, rt.alloc(), &plan, options, reader, &mut out, &mut err);
-    assert!(rt; met == Err(JoinFault::Run(RunFault::TooManyRefused(0))), "{met:?}");
+    assert!(rt;
+        met == Err(JoinFault::Run(RunFault::TooManyRefused(0))),
+        "{met:?}"
+    );
     assert!(rt; out.is_empty() && err.is_empty());
     let met = run_partial(&rt, rt.alloc(), &plan, options, BOTH, &mut out);
     assert!(rt; met == Err(RunFault::TooManyRefused(0)), "{met:?}");
