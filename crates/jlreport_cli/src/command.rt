@@ -123,7 +123,7 @@ Read on:
     LANGUAGE.md  the columns, the lines and the query language, also for who comes from SQL
     COOKBOOK.md  questions to a log, each with its query and its report
     FAULTS.md    each fault, when it comes and what to do, and what is no fault
-    SCALE.md     how far one machine goes, and how reports over parts of a file are joined
+    SCALE.md     how far one machine goes, and how many machines share a log by parts
     examples/    the files of all examples";
 
 /// The command without its arguments, with the texts that help shows around them.
