@@ -56,7 +56,6 @@ const FILE_HELP: &str = "The file to read, with one JSON object on each line, or
 const SUMMARY: &str =
     "The report goes to standard output, as CSV in which \\N is NULL; the refused lines go to standard
 error. The status is 0, or 1 where lines were refused; 2 to 6 say what went wrong.
-
 Example:
   jlreport --columns shop:text,cents:int --query 'SELECT shop, SUM(cents) AS cents
     FROM lines GROUP BY shop ORDER BY cents DESC NULLS LAST' examples/events.jsonl";
@@ -99,8 +98,7 @@ Parts:
   behind the other, and the report is that of all their lines. With both, parts are joined to one.
 
 Exit status:
-  0  there is a report, and no line is refused; or there is a part; or an explanation, help or the
-     version was asked for
+  0  there is a report, and no line is refused; or a part, an explanation, help or the version
   1  there is a report, and some lines are refused
   2  the words, the columns or the query are refused
   3  the file cannot be opened or read, or the output cannot be written
@@ -114,8 +112,9 @@ Examples:
   jlreport --columns shop:text,member:bool --query \\
     'SELECT shop, COUNT(*) AS n FROM lines WHERE member GROUP BY shop HAVING COUNT(*) > 5
      ORDER BY n DESC' examples/events.jsonl
-  cat part.* | jlreport --columns shop:text,cents:int --query \\
-    'SELECT shop, SUM(cents) FROM lines GROUP BY ROLLUP (shop)' --join /dev/stdin
+  jlreport --partial --columns cents:int --query 'SELECT SUM(cents) AS s FROM lines' \\
+    examples/events.jsonl > part
+  jlreport --join --columns cents:int --query 'SELECT SUM(cents) AS s FROM lines' part
 
 Read on:
   man jlreport. These pages stand in docs/ of the sources, and where the program is installed as
