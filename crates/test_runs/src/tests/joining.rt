@@ -1,5 +1,5 @@
 //! Parts of shards, and their joins: what these write, and where a read or a write fails.
-use super::running::{BY_D, BY_D_REPORT, By, make_plan};
+use super::running::{BY_D, BY_D_REPORT, By, is_refusal, make_plan, plan_if_any};
 use super::streams::{Pause, Sink, Source};
 use jlreport_cli::Options;
 use jlreport_engine::{Done, JoinFault, RunFault, join_partial, run_join, run_partial};
@@ -140,4 +140,71 @@ fn parts_that_are_not_written(rt: HostRuntime) {
         assert!(rt; out.taken.len() == room.min(part.len()));
     }
     drop(plan);
+}
+
+/// The most bytes of the part of both shards.
+const ROOM: usize = 1024;
+
+/// The bytes that were written into memory of zeros.
+fn written(room: &[u8]) -> &[u8] {
+    let len = room.iter().position(|byte| *byte == 0).unwrap_or(0);
+    &room[..len]
+}
+
+/// Where memory is refused the join of the part of both shards says so and nothing is written, else the report is, or the part
+/// again. It takes no memory but the join's.
+fn assert_joined(
+    rt: &(impl Abort + Threads + Wait + Sync),
+    alloc: Global,
+    (plan, options): (&Plan, Options),
+    part: &[u8],
+) {
+    let (mut room, mut list) = ([0u8; 128], [0u8; 128]);
+    let (mut out, mut err) = (room.as_mut_slice(), list.as_mut_slice());
+    match run_join(rt, alloc, plan, options, part, &mut out, &mut err) {
+        Ok(done) => {
+            assert!(rt; done == DONE);
+            assert!(rt; written(&room) == BY_D_REPORT && written(&list) == REFUSED);
+        }
+        Err(fault) => {
+            assert!(rt; fault == JoinFault::Run(RunFault::OutOfMemory), "{fault:?}");
+            assert!(rt; room[0] == 0 && list[0] == 0);
+        }
+    }
+    let mut again = [0u8; ROOM];
+    let mut out = again.as_mut_slice();
+    match join_partial(rt, alloc, plan, options, part, &mut out) {
+        Ok(done) => {
+            assert!(rt; done == DONE);
+            assert!(rt; written(&again) == part);
+        }
+        Err(fault) => {
+            assert!(rt; fault == JoinFault::Run(RunFault::OutOfMemory), "{fault:?}");
+            assert!(rt; again[0] == 0);
+        }
+    }
+}
+
+/// For the loop that refuses each allocation in turn.
+#[test]
+fn refusal_of_parts_and_joins(rt: HostRuntime) {
+    for workers in [1, 2] {
+        let by = By::Workers(workers);
+        let options = by.options(&rt, 7, None);
+        if let Some(plan) = plan_if_any(rt.alloc(), BY_D) {
+            let mut room = [0u8; ROOM];
+            let mut out = room.as_mut_slice();
+            match run_partial(&rt, rt.alloc(), &plan, options, BOTH, &mut out) {
+                Ok(done) => {
+                    assert!(rt; done == DONE);
+                    assert_joined(&rt, rt.alloc(), (&plan, options), written(&room));
+                }
+                Err(fault) => {
+                    assert!(rt; is_refusal(by, fault), "{fault:?}");
+                    assert!(rt; room[0] == 0);
+                }
+            }
+            drop(plan);
+        }
+    }
 }

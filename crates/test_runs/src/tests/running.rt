@@ -407,7 +407,7 @@ fn prints_faults(rt: HostRuntime) -> Result<(), Fail> {
 
 /// Whether a call may answer this where memory is refused: the memory fault, or that a thread was not started where
 /// it starts threads.
-fn is_refusal(by: By, fault: RunFault) -> bool {
+pub fn is_refusal(by: By, fault: RunFault) -> bool {
     match by {
         By::Alone | By::Workers(1) => fault == RunFault::OutOfMemory,
         By::Workers(_) => fault == RunFault::OutOfMemory || fault == RunFault::ThreadNotStarted,
