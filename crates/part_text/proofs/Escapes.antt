@@ -1,10 +1,12 @@
 -- Strings of JSON: their bytes.
-use Rattle.std.proofs.Common.{◌≡◌, ℕ, zero, suc, ◌<◌, Bool, true, ◌&&◌, List, [], ◌∷◌, ◌++◌, refl, sym, subst, arith, inl, inr}
-use Rattle.std.proofs.lemmas.Bool.{and_parts, cases_eq, cases_lt, leb-true}
+use Rattle.std.proofs.Common.{◌≡◌, ℕ, zero, suc, ◌<◌, Bool, true, ◌&&◌, ◌||◌, ◌==◌, List, [], ◌∷◌, ◌++◌, ◌∙◌, refl, sym, subst, arith, inl, inr}
+use Rattle.std.proofs.lemmas.Bool.{and_parts, cases_eq, cases_lt, eqb-false, leb-true, ltb-false, not-true, or_parts}
 use Rattle.std.proofs.lemmas.List.Concat.{flat_map-cons}
+use Rattle.std.specs.List.{list_all}
 use Rattle.std.specs.Prelude.{nat_le}
 use Rattle.json.proofs.Printed.Strings.{escape_byte_plain}
 use Rattle.json.specs.Print.{escape, escape_byte, quoted}
+use Rattle.json.specs.Run.{is_plain}
 use Rattle.part_text.proofs.Numerals.{HasNoControl}
 
 pub no_control-append : (xs ys : List ℕ) → HasNoControl xs → HasNoControl ys → HasNoControl (xs ++ ys)
@@ -49,3 +51,17 @@ escape-no_control (x ∷ s) = subst HasNoControl (sym (flat_map-cons escape_byte
 
 pub quoted-no_control : (s : List ℕ) → HasNoControl (quoted s)
 quoted-no_control s = (omega arith, no_control-append (escape s) (34 ∷ []) (escape-no_control s) (omega arith, tt))
+
+-- ---- a text of bytes that stand for themselves
+
+plain-same : (x : ℕ) → is_plain x ≡ true → escape_byte x ≡ x ∷ []
+plain-same x p =
+    let none = or_parts ((x == 34) || (x == 92)) _ (not-true _ p) in
+    let tests = or_parts (x == 34) _ none.0 in
+    escape_byte_plain x (eqb-false x 34 tests.0) (eqb-false x 92 tests.1) (ltb-false x 32 none.1)
+
+pub escape-plain : (s : List ℕ) → list_all is_plain s ≡ true → escape s ≡ s
+escape-plain [] h = refl
+escape-plain (x ∷ s) h =
+    let p = and_parts _ _ h in
+    flat_map-cons escape_byte x s ∙ (λ i. plain-same x p.0 i ++ escape-plain s p.1 i)

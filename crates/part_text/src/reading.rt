@@ -1,5 +1,5 @@
 //! Values, read from lines.
-ghost use Rattle.std.specs.Prelude.{◌≡◌, ◌≢◌, ℕ, List, IfOk, MatchOption};
+ghost use Rattle.std.specs.Prelude.{◌≡◌, ◌≢◌, ℕ, List, IfOk, IfSome, MatchOption};
 ghost use Rattle.std.specs.Str.{bytes_eq};
 ghost use Rattle.json.specs.Print.{quoted};
 ghost use Rattle.json.specs.Reads.{token_of};
@@ -9,7 +9,7 @@ ghost use Rattle.values.specs.Datum.{datum_of};
 ghost use Rattle.part_text.specs.Reading.{IsNoLiteralName, IsTextOf, Tells, TellsAmong, line_value};
 
 use crate::fault::ValueFault;
-use crate::strings::json_string;
+use crate::strings::{has_no_escape, json_string};
 use itoa::Buffer;
 use json::{Reader, Scratch, Token};
 use simdutf8::basic::from_utf8;
@@ -57,6 +57,28 @@ fn literal_value(line: &str) -> Option<Value>
 fn read_number(line: &str) -> Result<Value, ValueFault>
     ensures { TellsAmong whole line.now result }
 {
+    match short_number(line) {
+        Some(number) => Ok(Value::Int(i128::from(number))),
+        None => read_wide_number(line),
+    }
+}
+
+/// The same where it has 64 bits, which are read faster; `None` says nothing of the line.
+fn short_number(line: &str) -> Option<i64>
+    ensures { IfSome result (λ number. IsTextOf line.now (whole number)) }
+{
+    let number = line.parse::<i64>().ok()?;
+    if Buffer::new().format(number) == line {
+        Some(number)
+    } else {
+        None
+    }
+}
+
+/// The same, whatever its size.
+fn read_wide_number(line: &str) -> Result<Value, ValueFault>
+    ensures { TellsAmong whole line.now result }
+{
     let Ok(number) = line.parse::<i128>() else {
         return Err(ValueFault::NotAValue);
     };
@@ -69,6 +91,32 @@ fn read_number(line: &str) -> Result<Value, ValueFault>
 
 /// The text of a line, if it is a string of JSON with the shortest escapes.
 fn read_string(alloc: Global, scratch: &mut Scratch, line: &str) -> Result<Value, ValueFault>
+    ensures { TellsAmong text line.now result }
+{
+    match plain_string(line) {
+        Some(string) => Ok(Value::Text(String::from_str(alloc, string)?)),
+        None => read_escaped_string(alloc, scratch, line),
+    }
+}
+
+/// The text between the quotes of a line, where it stands there as it is, without an escape; `None` says nothing of the line.
+fn plain_string<'a>(line: &'a str) -> Option<&'a str>
+    ensures { IfSome result (λ s. line.now ≡ quoted s.now) }
+{
+    let string = line.strip_prefix('"')?.strip_suffix('"')?;
+    if has_no_escape(string) {
+        Some(string)
+    } else {
+        None
+    }
+}
+
+/// The text of a line as `read_string` has it, with escapes or without.
+fn read_escaped_string(
+    alloc: Global,
+    scratch: &mut Scratch,
+    line: &str,
+) -> Result<Value, ValueFault>
     ensures { TellsAmong text line.now result }
 {
     let mut reader = Reader::new(line, scratch)?;

@@ -1,10 +1,11 @@
 //! Values, written as lines.
 ghost use Rattle.std.specs.Prelude.{◌≡◌, [], ◌∷◌, ◌++◌, OnOk};
 ghost use Rattle.semantics.specs.Lines.{line_feed};
+ghost use Rattle.semantics.specs.Values as semantics;
 ghost use Rattle.values.specs.Datum.{datum_of};
 ghost use Rattle.semantics.specs.Parts.{line_of};
 
-use crate::strings::json_string;
+use crate::strings::{has_no_escape, json_string};
 use itoa::Buffer;
 use std::alloc::{AllocError, Global};
 use values::Value;
@@ -23,9 +24,21 @@ pub fn push_value(alloc: Global, text: &mut Vec<u8>, value: &Value) -> Result<()
         Value::Bool(true) => push_line(text, b"true"),
         Value::Bool(false) => push_line(text, b"false"),
         Value::Int(number) => push_line(text, Buffer::new().format(*number).as_bytes()),
-        Value::Text(string) => push_line(text, json_string(alloc, string.as_str())?.as_slice()),
+        Value::Text(string) => push_string(alloc, text, string.as_str()),
         Value::Null => push_line(text, b"null"),
     }
+}
+
+/// Puts the line of a text behind others.
+fn push_string(alloc: Global, text: &mut Vec<u8>, string: &str) -> Result<(), AllocError>
+    ensures { OnOk result (text.new.items ≡ text.old.items ++ line_of (semantics.text string.now)) }
+{
+    if has_no_escape(string) {
+        text.push(b'"')?;
+        text.extend_from_slice(string.as_bytes())?;
+        return push_line(text, b"\"");
+    }
+    push_line(text, json_string(alloc, string)?.as_slice())
 }
 
 /// Puts bytes and a line feed behind a text.

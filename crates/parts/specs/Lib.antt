@@ -3,4 +3,5 @@ pub mod Reader
 pub mod Texts
 pub mod ReadingParts
 pub mod Gathering
+pub mod Hashing
 pub mod Joining

@@ -4,16 +4,76 @@ ghost use Rattle.sha2.specs.Sha256.{sha256};
 ghost use Rattle.sha2.specs.Hashers.{Holds256};
 ghost use Rattle.std.specs.Prelude.{◌≡◌, ℕ, IfOk, List, OnOk, string_bytes};
 ghost use Rattle.parts.specs.Faults.{Gives};
+ghost use Rattle.parts.specs.Hashing.{HoldsText};
 ghost use Rattle.semantics.specs.Parts.{with_checksum};
 ghost use Rattle.parts.specs.ReadingParts.{checksum_at};
 
 use crate::fault::PartRefusal;
 use crate::texts::{check, next_text};
 use crate::writing::push_text;
-use part_groups::Source;
+use group_states::GroupEntry;
+use part_groups::{Source, push_group};
 use semantics::PartsFaultKind;
 use sha2::{Digest, Sha256};
 use std::alloc::{AllocError, Global};
+
+/// How many bytes of a text are hashed at once, at least.
+const MIN_PIECE_LEN: usize = 4096;
+
+/// Takes the text of a part, one group after the other, for its checksum.
+#[derive(Drop)]
+pub(crate) struct TextHasher {
+    /// What was given the text, but for its end.
+    hasher: Sha256,
+    /// The end of the text.
+    end: Vec<u8>,
+}
+
+impl TextHasher {
+    ghost use Rattle.std.specs.Prelude.{◌++◌};
+    ghost use Rattle.group_states.specs.States.{entry_of};
+    ghost use Rattle.semantics.specs.Parts.{group_values, text_of};
+
+    /// What was given this text.
+    pub(crate) fn of_text(text: Vec<u8>) -> TextHasher
+        ensures { HoldsText result text.items }
+    {
+        TextHasher {
+            hasher: Sha256::new(),
+            end: text,
+        }
+    }
+
+    /// Gives it the text of a group.
+    pub(crate) fn push_group(&mut self, alloc: Global, group: &GroupEntry) -> Result<(), AllocError>
+        ensures { (text : List ℕ) → HoldsText self.old text → OnOk result
+            (HoldsText self.new (text ++ text_of (group_values (entry_of group.now)))) }
+    {
+        push_group(alloc, &mut self.end, group)?;
+        if self.end.len() >= MIN_PIECE_LEN {
+            self.hash_end();
+        }
+        Ok(())
+    }
+
+    /// Hashes the end of the text, of which nothing is left then.
+    fn hash_end(&mut self)
+        ensures { (text : List ℕ) → HoldsText self.old text → HoldsText self.new text }
+    {
+        self.hasher.update(self.end.as_slice());
+        self.end.clear();
+    }
+
+    /// The checksum of the text, in hexadecimal.
+    fn checksum(self, alloc: Global) -> Result<String, AllocError>
+        ensures { (text : List ℕ) → HoldsText self text
+            → IfOk result (λ sum. string_bytes sum ≡ encode_lower (sha256 text)) }
+    {
+        let TextHasher { mut hasher, end } = self;
+        hasher.update(end.as_slice());
+        checksum(alloc, hasher)
+    }
+}
 
 /// The checksum of the bytes that were given to a hasher, in hexadecimal.
 fn checksum(alloc: Global, hasher: Sha256) -> Result<String, AllocError>
@@ -36,18 +96,18 @@ pub(crate) fn with_checksum(alloc: Global, lines: Vec<u8>) -> Result<Vec<u8>, Al
     Ok(text)
 }
 
-/// The next value, which is the checksum of the bytes that were given to a hasher.
+/// The next value, which is the checksum of the text that a hasher was given.
 #[tactic(auto, unfolding(crate::specs::ReadingParts::checksum_at))]
 pub(crate) fn next_checksum<S: Source>(
     alloc: Global,
     source: &mut S,
-    hasher: Sha256,
+    hasher: TextHasher,
 ) -> Result<(), PartRefusal>
     ensures known { S.known source.old → OnOk result (S.known source.new) }
-    ensures read { (bytes : List ℕ) → Holds256 hasher bytes → S.known source.old
+    ensures read { (bytes : List ℕ) → HoldsText hasher bytes → S.known source.old
         → Gives (λ _. (tt, S.stream source.new)) result (checksum_at bytes (S.stream source.old)) }
 {
     let text = next_text(source)?;
-    let checksum = checksum(alloc, hasher)?;
+    let checksum = hasher.checksum(alloc)?;
     check(source, text == checksum, PartsFaultKind::WrongChecksum)
 }

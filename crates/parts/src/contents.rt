@@ -3,12 +3,13 @@ ghost use Rattle.std.specs.Prelude.{◌≡◌, ◌+◌, ◌-◌, ◌^◌, ◌<�
 ghost use Rattle.part_groups.specs.Groups.{shape_of};
 ghost use Rattle.semantics.specs.Parts.{text_of, columns_text, values_with};
 ghost use Rattle.semantics.specs.Canonical.{canonical_text};
-ghost use Rattle.sha2.specs.Hashers.{Holds256};
 ghost use Rattle.tables.specs.Contents.{HasRefusals, groups_in};
 ghost use Rattle.parts.specs.Faults.{Gives};
+ghost use Rattle.parts.specs.Hashing.{HoldsText};
 ghost use Rattle.parts.specs.Gathering.{IsGathering, IsOfOnePiece, contents_of};
 ghost use Rattle.parts.specs.ReadingParts.{can_have, contents_at, group_count_at, lines_at, shape_under};
 
+use crate::checksum::TextHasher;
 use crate::fault::PartRefusal;
 use crate::gathering::Gathering;
 use crate::groups::next_groups;
@@ -19,7 +20,6 @@ use lines::LineFault;
 use part_groups::{GroupShape, Source, next_count};
 use query_plan::Plan;
 use semantics::{Kind, PartsFaultKind};
-use sha2::{Digest, Sha256};
 use std::alloc::{AllocError, Global};
 use tables::{Executor, Partial};
 
@@ -71,7 +71,7 @@ fn before_groups<E: Executor>(
     alloc: Global,
     plan: &Plan,
     executor: &E,
-    text: &[u8],
+    text: Vec<u8>,
     lines: u64,
     refused: Vec<(u64, LineFault)>,
 ) -> Result<Gathering, AllocError>
@@ -82,17 +82,15 @@ fn before_groups<E: Executor>(
     ensures none { IfOk result (λ start. start.last ≡ None) }
     ensures groups { IfOk result (λ start. groups_in start.partial ≡ []) }
     ensures left { IfOk result (λ start. start.left ≡ lines - length refused.items) }
-    ensures hashed { IfOk result (λ start. Holds256 start.hasher text.now) }
+    ensures hashed { IfOk result (λ start. HoldsText start.hasher text.items) }
     ensures refusals { IfOk result (λ start. HasRefusals lines refused.items start.partial) }
 {
     let left = lines - refused.len() as u64;
     let partial = Partial::without_groups(alloc, plan, executor, lines, refused)?;
-    let mut hasher = Sha256::new();
-    hasher.update(text);
     Ok(Gathering {
         partial,
         last: None,
-        hasher,
+        hasher: TextHasher::of_text(text),
         left,
     })
 }
@@ -117,7 +115,7 @@ pub(crate) fn next_contents<S: Source, E: Executor>(
         → Gives (λ so_far. (contents_of so_far, S.stream source.new)) result
         (contents_at plan.now.fields plan.now.query before (S.stream source.old)) }
     ensures gathering { IfOk result (IsGathering plan.now) }
-    ensures hashed { IfOk result (λ so_far. Holds256 so_far.hasher
+    ensures hashed { IfOk result (λ so_far. HoldsText so_far.hasher
         (text_of (values_with plan.now.fields plan.now.query (contents_of so_far)))) }
     ensures one { IfOk result (λ so_far. IsOfOnePiece so_far.partial) }
     ensures few { IfOk result (λ so_far. before + so_far.partial.lines < 2 ^ 63) }
@@ -127,6 +125,6 @@ pub(crate) fn next_contents<S: Source, E: Executor>(
     let refused = next_refused(alloc, source, columns, lines)?;
     let count = next_group_count(source, shape)?;
     let text = front_text(alloc, header, columns, lines, refused.as_slice(), count)?;
-    let start = before_groups(alloc, plan, executor, text.as_slice(), lines, refused)?;
+    let start = before_groups(alloc, plan, executor, text, lines, refused)?;
     next_groups(alloc, plan, source, shape, start, count)
 }

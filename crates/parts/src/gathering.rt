@@ -4,17 +4,16 @@ ghost use Rattle.std.specs.Prelude.{◌≡◌, ◌-◌, ◌++◌, ◌∷◌, [],
 ghost use Rattle.group_states.specs.States.{entry_of};
 ghost use Rattle.semantics.specs.Parts.{group_values, text_of};
 ghost use Rattle.part_groups.specs.Known.{IsGroupFor};
-ghost use Rattle.sha2.specs.Hashers.{Holds256};
+ghost use Rattle.parts.specs.Hashing.{HoldsText};
 ghost use Rattle.tables.specs.Contents.{DiffersInGroups};
 ghost use Rattle.tables.specs.Sound.{IsSoundUnder};
 ghost use Rattle.values.specs.Datum.{data_of};
 ghost use Rattle.parts.specs.ReadingParts.{shape_under};
 
+use crate::checksum::TextHasher;
 use crate::putting::put_last;
 use group_states::GroupEntry;
-use part_groups::push_group;
 use query_plan::Plan;
-use sha2::{Digest, Sha256};
 use std::alloc::{AllocError, Global};
 use tables::Partial;
 use values::Value;
@@ -27,7 +26,7 @@ pub(crate) struct Gathering {
     /// The last one, behind which the next one has to be.
     pub(crate) last: Option<GroupEntry>,
     /// What was given the text of the part so far.
-    pub(crate) hasher: Sha256,
+    pub(crate) hasher: TextHasher,
     /// How many members the next ones may have.
     pub(crate) left: u64,
 }
@@ -60,8 +59,8 @@ impl Gathering {
             groups_of next ≡ groups_of self ++ entry_of group ∷ []) }
         ensures last { IfOk result (λ next. next.last ≡ Some group) }
         ensures left { IfOk result (λ next. next.left ≡ self.left - group.members) }
-        ensures hashed { IfOk result (λ next. (bytes : List ℕ) → Holds256 self.hasher bytes
-            → Holds256 next.hasher (bytes ++ text_of (group_values (entry_of group)))) }
+        ensures hashed { IfOk result (λ next. (bytes : List ℕ) → HoldsText self.hasher bytes
+            → HoldsText next.hasher (bytes ++ text_of (group_values (entry_of group)))) }
         ensures others { IfOk result (λ next. DiffersInGroups self.partial next.partial) }
     {
         let Gathering {
@@ -71,7 +70,7 @@ impl Gathering {
             left,
         } = self;
         let partial = put_last(plan, partial, last, left)?;
-        hash_group(alloc, &mut hasher, &group)?;
+        hasher.push_group(alloc, &group)?;
         let left = left - group.members;
         Ok(Gathering {
             partial,
@@ -104,15 +103,4 @@ impl Gathering {
             left,
         })
     }
-}
-
-/// Gives the text of a group to a hasher.
-fn hash_group(alloc: Global, hasher: &mut Sha256, group: &GroupEntry) -> Result<(), AllocError>
-    ensures { (bytes : List ℕ) → Holds256 hasher.old bytes → OnOk result
-        (Holds256 hasher.new (bytes ++ text_of (group_values (entry_of group.now)))) }
-{
-    let mut text = Vec::new(alloc);
-    push_group(alloc, &mut text, group)?;
-    hasher.update(text.as_slice());
-    Ok(())
 }

@@ -3,9 +3,9 @@ ghost use Rattle.std.specs.Prelude.{◌≡◌, ◌++◌, ℕ, IfOk, List, None, 
 ghost use Rattle.part_groups.specs.Groups.{shape_of};
 ghost use Rattle.semantics.specs.Parts.{groups_values, text_of};
 ghost use Rattle.part_groups.specs.Reading.{groups_at};
-ghost use Rattle.sha2.specs.Hashers.{Holds256};
 ghost use Rattle.tables.specs.Contents.{DiffersInGroups};
 ghost use Rattle.parts.specs.Faults.{Gives};
+ghost use Rattle.parts.specs.Hashing.{HoldsText};
 ghost use Rattle.parts.specs.Gathering.{IsGathering, groups_of};
 ghost use Rattle.parts.specs.ReadingParts.{of_part, shape_under};
 
@@ -33,8 +33,8 @@ pub(crate) fn next_groups<S: Source>(
         (of_part (groups_at (shape_of shape.now) count None start.left (S.stream source.old))) }
     ensures count { IfOk result (λ next. length (groups_of next) ≡ count) }
     ensures gathering { IfOk result (IsGathering plan.now) }
-    ensures hashed { IfOk result (λ next. (bytes : List ℕ) → Holds256 start.hasher bytes
-        → Holds256 next.hasher (bytes ++ text_of (groups_values (groups_of next)))) }
+    ensures hashed { IfOk result (λ next. (bytes : List ℕ) → HoldsText start.hasher bytes
+        → HoldsText next.hasher (bytes ++ text_of (groups_values (groups_of next)))) }
     ensures others { IfOk result (λ next. DiffersInGroups start.partial next.partial) }
 {
     let mut so_far = start;

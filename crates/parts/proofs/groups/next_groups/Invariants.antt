@@ -3,7 +3,7 @@ use Rattle.part_groups.specs.Groups.{shape_of}
 use Rattle.semantics.specs.Parts.{groups_values, text_of}
 use Rattle.part_groups.specs.Reading.{groups_at}
 use Rattle.part_groups.proofs.Loop.{with_front}
-use Rattle.sha2.specs.Hashers.{Holds256}
+use Rattle.parts.specs.Hashing.{HoldsText}
 use Rattle.tables.specs.Contents.{DiffersInGroups}
 use Rattle.parts.specs.Gathering.{IsGathering, groups_of, key_of}
 use Rattle.parts.proofs.groups.next_groups.Given as goal
@@ -15,6 +15,6 @@ invariant-loop g l = record {
       × (with_front (groups_of l.so_far) (groups_at (shape_of l.shape) (l.count - l.counter) (option_map key_of l.so_far.last) l.so_far.left (g.S.Source.stream l.source)) ≡ groups_at (shape_of l.shape) l.count None l.fn.start.left (g.S.Source.stream l.fn.source));
   count : length (groups_of l.so_far) ≡ l.counter;
   gathering : IsGathering l.plan l.so_far;
-  hashed : (bytes : List ℕ) → Holds256 l.fn.start.hasher bytes → Holds256 l.so_far.hasher (bytes ++ text_of (groups_values (groups_of l.so_far)));
+  hashed : (bytes : List ℕ) → HoldsText l.fn.start.hasher bytes → HoldsText l.so_far.hasher (bytes ++ text_of (groups_values (groups_of l.so_far)));
   others : DiffersInGroups l.fn.start.partial l.so_far.partial;
 }
