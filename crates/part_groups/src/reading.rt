@@ -30,7 +30,7 @@ fn next_values<S: Source>(
         (key_at columns.now (S.stream source.old)) }
     ensures held { IfOk result (λ values. IsKeyFor columns.now (data_of values.items)) }
 {
-    let mut values = Vec::new(alloc);
+    let mut values = Vec::with_capacity(alloc, columns.len())?;
     for kind in columns {
         let value = next_held(source, *kind)?;
         values.push(value)?;

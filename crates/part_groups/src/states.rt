@@ -128,7 +128,7 @@ pub(crate) fn next_states<S: Source>(
     ensures states { IfOk result
         (λ states. AreStatesFor members kinds.now (states_of states.items)) }
 {
-    let mut states = Vec::new(alloc);
+    let mut states = Vec::with_capacity(alloc, kinds.len())?;
     for kind in kinds {
         let state = next_state(alloc, source, *kind, members)?;
         states.push(state)?;

@@ -56,7 +56,7 @@ impl PackedKey {
     pub(crate) fn of_values(alloc: Global, values: &[Value]) -> Result<PackedKey, AllocError>
         ensures { IfOk result (λ key. key_in key ≡ data_of values.now) }
     {
-        let mut code = Vec::new(alloc);
+        let mut code = Vec::with_capacity(alloc, code_room(values))?;
         put_values(&mut code, values)?;
         Ok(PackedKey { code })
     }
@@ -135,6 +135,24 @@ impl PackedKey {
         ensures { result.now ≡ values_code (key_in self.now) }
     {
         self.code.as_slice()
+    }
+}
+
+/// How many bytes the codes of values take, unless a whole number among them has more than 64 bits.
+fn code_room(values: &[Value]) -> usize {
+    let mut room: usize = 0;
+    for value in values {
+        room = room.saturating_add(value_room(value));
+    }
+    room
+}
+
+/// The same of one value.
+fn value_room(value: &Value) -> usize {
+    match value {
+        Value::Bool(_) | Value::Null => 1,
+        Value::Int(_) => 9,
+        Value::Text(text) => text.len().saturating_add(2),
     }
 }
 

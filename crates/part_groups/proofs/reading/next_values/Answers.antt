@@ -13,7 +13,7 @@ use Rattle.part_groups.proofs.reading.next_values.Goals as goal
 pub returns-in_err-value-clause-read : goal.returns-in_err-value-clause-read
 returns-in_err-value-clause-read g c = λ known.
     let so_far = c.loop-kind.invariant.read known in
-    let p = err_from_is_err_and c.from_residual.result c.from_residual.ensures.1 in
+    let p = err_from_is_err_and c.from_residual-in_err-value.result c.from_residual-in_err-value.ensures.1 in
     let i = c.loop-kind.kind-index in
     let ks = c.args.columns.now in
     rw (p.1, p.2) (each_ends held_at c.in_err-value.field-0.0 (data_of c.loop-kind.values.items) _ (drop i ks) (drop (i + 1) ks) (g.S.Source.stream c.loop-kind.source) (key_at ks (g.S.Source.stream c.args.source.now)) (drop_more ks i _ c.loop-kind-test.true) (c.in_err-value.ensures.read so_far.0) so_far.1)

@@ -12,7 +12,7 @@ use Rattle.part_groups.proofs.states.next_states.Goals as goal
 pub returns-in_err-state-clause-read : goal.returns-in_err-state-clause-read
 returns-in_err-state-clause-read g c = λ known.
     let so_far = c.loop-kind.invariant.read known in
-    let p = err_from_is_err_and c.from_residual.result c.from_residual.ensures.1 in
+    let p = err_from_is_err_and c.from_residual-in_err-state.result c.from_residual-in_err-state.ensures.1 in
     let i = c.loop-kind.kind-index in
     let ks = c.args.kinds.now in
     let one = state_at c.args.members in
