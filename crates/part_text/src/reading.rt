@@ -12,6 +12,7 @@ use crate::fault::ValueFault;
 use crate::strings::{has_no_escape, json_string};
 use itoa::Buffer;
 use json::{Reader, Scratch, Token};
+use lines_json::whole_number;
 use simdutf8::basic::from_utf8;
 use std::alloc::{AllocError, Global};
 use values::Value;
@@ -24,6 +25,28 @@ use values::Value;
 ///
 /// `NotAValue` where the line is the text of no value, `OutOfMemory` where there is no memory for the value.
 pub fn read_value(alloc: Global, scratch: &mut Scratch, line: &[u8]) -> Result<Value, ValueFault>
+    ensures { Tells result (line_value line.now) }
+{
+    match short_number(line) {
+        Some(value) => Ok(value),
+        None => read_any_value(alloc, scratch, line),
+    }
+}
+
+/// The whole number of 64 bits that a line is the text of; `None` says nothing of the line.
+fn short_number(line: &[u8]) -> Option<Value>
+    ensures { IfSome result (λ value. IsTextOf line.now (datum_of value)) }
+{
+    let number = whole_number(line)?;
+    if Buffer::new().format(number).as_bytes() == line {
+        Some(Value::Int(i128::from(number)))
+    } else {
+        None
+    }
+}
+
+/// The value of a line as `read_value` has it, whatever it is.
+fn read_any_value(alloc: Global, scratch: &mut Scratch, line: &[u8]) -> Result<Value, ValueFault>
     ensures { Tells result (line_value line.now) }
 {
     let Ok(line) = from_utf8(line) else {
@@ -55,28 +78,6 @@ fn literal_value(line: &str) -> Option<Value>
 /// The whole number of a line, if it has 128 bits and is written as numbers are: without a plus, a zero in front, a fraction
 /// or an exponent.
 fn read_number(line: &str) -> Result<Value, ValueFault>
-    ensures { TellsAmong whole line.now result }
-{
-    match short_number(line) {
-        Some(number) => Ok(Value::Int(i128::from(number))),
-        None => read_wide_number(line),
-    }
-}
-
-/// The same where it has 64 bits, which are read faster; `None` says nothing of the line.
-fn short_number(line: &str) -> Option<i64>
-    ensures { IfSome result (λ number. IsTextOf line.now (whole number)) }
-{
-    let number = line.parse::<i64>().ok()?;
-    if Buffer::new().format(number) == line {
-        Some(number)
-    } else {
-        None
-    }
-}
-
-/// The same, whatever its size.
-fn read_wide_number(line: &str) -> Result<Value, ValueFault>
     ensures { TellsAmong whole line.now result }
 {
     let Ok(number) = line.parse::<i128>() else {

@@ -13,7 +13,7 @@ use std::alloc::{AllocError, Global};
 pub(crate) fn json_string(alloc: Global, text: &str) -> Result<Vec<u8>, AllocError>
     ensures { IfOk result (λ string. string.items ≡ quoted text.now) }
 {
-    let mut writer = Writer::new(Vec::new(alloc));
+    let mut writer = Writer::new(Vec::with_capacity(alloc, text.len().saturating_mul(2))?);
     writer.string(text)?;
     Ok(writer.into_inner())
 }

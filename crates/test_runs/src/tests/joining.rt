@@ -94,23 +94,45 @@ fn limit_of_joins(rt: HostRuntime) {
     drop(plan);
 }
 
-/// Nothing is written where a read fails within the second part, or where the last line is gone.
+/// A reader of bytes that fails behind so many of them.
+fn failing_behind<'a>(bytes: &'a [u8], len: usize) -> Source<'a> {
+    let (front, behind) = bytes.split_at(bytes.len().min(len));
+    Source {
+        front,
+        pause: Pause::Error(ErrorKind::Other),
+        behind,
+        at_once: 7,
+    }
+}
+
+/// Nothing is written where a read fails, whichever it is.
 #[test]
 fn joins_that_are_not_read(rt: HostRuntime) {
     let plan = make_plan(&rt, rt.alloc(), BY_D);
     let options = By::Alone.options(&rt, 7, None);
     let given = parts(&rt, rt.alloc(), (&plan, options));
     let bytes = given.as_slice();
-    let (front, behind) = bytes.split_at(bytes.len().min(300));
-    let reader = Source {
-        front,
-        pause: Pause::Error(ErrorKind::Other),
-        behind,
-        at_once: 7,
-    };
     let (mut out, mut err) = (Vec::new(rt.alloc()), Vec::new(rt.alloc()));
-    let met = run_join(&rt, rt.alloc(), &plan, options, reader, &mut out, &mut err);
-    assert!(rt; met == Err(JoinFault::Run(RunFault::Reading)), "{met:?}");
+    for len in 0..bytes.len() {
+        let reader = failing_behind(bytes, len);
+        let met = run_join(&rt, rt.alloc(), &plan, options, reader, &mut out, &mut err);
+        assert!(rt; met == Err(JoinFault::Run(RunFault::Reading)), "{met:?}");
+        let reader = failing_behind(bytes, len);
+        let met = join_partial(&rt, rt.alloc(), &plan, options, reader, &mut out);
+        assert!(rt; met == Err(JoinFault::Run(RunFault::Reading)), "{met:?}");
+        assert!(rt; out.is_empty() && err.is_empty());
+    }
+    drop(plan);
+}
+
+/// Nothing is written where the second part lacks its end.
+#[test]
+fn join_without_an_end(rt: HostRuntime) {
+    let plan = make_plan(&rt, rt.alloc(), BY_D);
+    let options = By::Alone.options(&rt, 7, None);
+    let given = parts(&rt, rt.alloc(), (&plan, options));
+    let front = &given.as_slice()[..given.len().min(300)];
+    let (mut out, mut err) = (Vec::new(rt.alloc()), Vec::new(rt.alloc()));
     let met = run_join(&rt, rt.alloc(), &plan, options, front, &mut out, &mut err);
     match met {
         Err(JoinFault::Parts(fault)) => assert_eq!(rt; fault.part, 2),
@@ -120,25 +142,143 @@ fn joins_that_are_not_read(rt: HostRuntime) {
     drop(plan);
 }
 
-/// A beginning of a part is written to a writer that takes a few bytes and then fails.
+/// A writer that has room for so many bytes, takes two at once, and then fails, or fails where it is flushed.
+fn failing_sink(alloc: Global, room: usize, flushes: bool) -> Sink {
+    Sink {
+        room,
+        at_once: 2,
+        pause: Pause::Error(ErrorKind::BrokenPipe),
+        flushes,
+        taken: Vec::new(alloc),
+    }
+}
+
+/// As much of the part of both shards is written as a writer has room for: of a run, and of a join.
+fn assert_part_cut(
+    rt: &(impl Abort + Threads + Wait + Sync),
+    alloc: Global,
+    (plan, options): (&Plan, Options),
+    part: &[u8],
+    room: usize,
+    flushes: bool,
+) {
+    let mut out = failing_sink(alloc, room, flushes);
+    let met = run_partial(rt, alloc, plan, options, BOTH, &mut out);
+    assert!(rt; met == Err(RunFault::WritingPart), "{met:?}");
+    assert!(rt; out.taken.as_slice() == &part[..part.len().min(room)]);
+    let mut out = failing_sink(alloc, room, flushes);
+    let met = join_partial(rt, alloc, plan, options, part, &mut out);
+    assert!(rt;
+        met == Err(JoinFault::Run(RunFault::WritingPart)),
+        "{met:?}"
+    );
+    assert!(rt; out.taken.as_slice() == &part[..part.len().min(room)]);
+}
+
+/// A beginning of a part is written where a write fails, whichever it is, and the whole where the flush fails.
 #[test]
 fn parts_that_are_not_written(rt: HostRuntime) {
     let plan = make_plan(&rt, rt.alloc(), BY_D);
-    let options = By::Workers(2).options(&rt, 7, None);
-    for (room, flushes) in [(3, true), (100_000, false)] {
-        let mut out = Sink {
+    let options = By::Alone.options(&rt, 7, None);
+    let part = part_of(&rt, rt.alloc(), (&plan, options), BOTH);
+    for room in 0..part.len() {
+        assert_part_cut(
+            &rt,
+            rt.alloc(),
+            (&plan, options),
+            part.as_slice(),
             room,
-            at_once: 2,
-            pause: Pause::Error(ErrorKind::BrokenPipe),
-            flushes,
-            taken: Vec::new(rt.alloc()),
-        };
-        let met = run_partial(&rt, rt.alloc(), &plan, options, BOTH, &mut out);
-        assert!(rt; met == Err(RunFault::WritingPart), "{met:?}");
-        let part = part_of(&rt, rt.alloc(), (&plan, options), BOTH);
-        assert!(rt; part.starts_with(out.taken.as_slice()));
-        assert!(rt; out.taken.len() == room.min(part.len()));
+            true,
+        );
     }
+    assert_part_cut(
+        &rt,
+        rt.alloc(),
+        (&plan, options),
+        part.as_slice(),
+        part.len(),
+        false,
+    );
+    drop(plan);
+}
+
+/// What a join with these writers answers, and that these were given all there was room for of the report and the list.
+fn assert_join_cut(
+    rt: &(impl Abort + Threads + Wait + Sync),
+    alloc: Global,
+    (plan, options): (&Plan, Options),
+    part: &[u8],
+    sinks: (Sink, Sink),
+    fault: RunFault,
+) {
+    let (mut out, mut err) = sinks;
+    let (report_room, list_room) = (out.room, err.room);
+    let met = run_join(rt, alloc, plan, options, part, &mut out, &mut err);
+    assert!(rt; met == Err(JoinFault::Run(fault)), "{met:?}");
+    assert!(rt; out.taken.as_slice() == &BY_D_REPORT[..BY_D_REPORT.len().min(report_room)]);
+    assert!(rt; err.taken.as_slice() == &REFUSED[..REFUSED.len().min(list_room)]);
+}
+
+/// A beginning of the report is written, and nothing of the list, where a write of the report fails, whichever it is; and
+/// the report and a beginning of the list where one of the list fails.
+#[test]
+fn joins_that_are_not_written(rt: HostRuntime) {
+    let plan = make_plan(&rt, rt.alloc(), BY_D);
+    let options = By::Alone.options(&rt, 7, None);
+    let part = part_of(&rt, rt.alloc(), (&plan, options), BOTH);
+    let ample = BY_D_REPORT.len();
+    for room in 0..ample {
+        let sinks = (
+            failing_sink(rt.alloc(), room, true),
+            failing_sink(rt.alloc(), 0, true),
+        );
+        assert_join_cut(
+            &rt,
+            rt.alloc(),
+            (&plan, options),
+            part.as_slice(),
+            sinks,
+            RunFault::WritingReport,
+        );
+    }
+    let sinks = (
+        failing_sink(rt.alloc(), ample, false),
+        failing_sink(rt.alloc(), 0, true),
+    );
+    assert_join_cut(
+        &rt,
+        rt.alloc(),
+        (&plan, options),
+        part.as_slice(),
+        sinks,
+        RunFault::WritingReport,
+    );
+    for room in 0..REFUSED.len() {
+        let sinks = (
+            failing_sink(rt.alloc(), ample, true),
+            failing_sink(rt.alloc(), room, true),
+        );
+        assert_join_cut(
+            &rt,
+            rt.alloc(),
+            (&plan, options),
+            part.as_slice(),
+            sinks,
+            RunFault::WritingRefused,
+        );
+    }
+    let sinks = (
+        failing_sink(rt.alloc(), ample, true),
+        failing_sink(rt.alloc(), REFUSED.len(), false),
+    );
+    assert_join_cut(
+        &rt,
+        rt.alloc(),
+        (&plan, options),
+        part.as_slice(),
+        sinks,
+        RunFault::WritingRefused,
+    );
     drop(plan);
 }
 

@@ -5,7 +5,7 @@ use Rattle.std.proofs.lemmas.Slice.Eq.{bytes_eq-Decides}
 use Rattle.std.specs.Fmt.{signed_decimal}
 use Rattle.std.specs.Int.{w128}
 use Rattle.part_text.proofs.Numerals.{fits-signed, parse-signed}
-use Rattle.part_text.proofs.reading.read_wide_number.Goals as goal
+use Rattle.part_text.proofs.reading.read_number.Goals as goal
 
 pub returns-in_default : goal.returns-in_default
 returns-in_default c n t = c.in_default.not-Ok n (parse-signed n c.args.line.now c.parse.result t.0 t.1 c.parse.ensures.value.0)
