@@ -35,12 +35,14 @@ impl TextHasher {
     ghost use Rattle.semantics.specs.Parts.{group_values, text_of};
 
     /// What was given this text.
-    pub(crate) fn of_text(text: Vec<u8>) -> TextHasher
-        ensures { HoldsText result text.items }
+    pub(crate) fn of_text(alloc: Global, text: &[u8]) -> TextHasher
+        ensures { HoldsText result text.now }
     {
+        let mut hasher = Sha256::new();
+        hasher.update(text);
         TextHasher {
-            hasher: Sha256::new(),
-            end: text,
+            hasher,
+            end: Vec::new(alloc),
         }
     }
 

@@ -71,7 +71,7 @@ fn before_groups<E: Executor>(
     alloc: Global,
     plan: &Plan,
     executor: &E,
-    text: Vec<u8>,
+    text: &[u8],
     lines: u64,
     refused: Vec<(u64, LineFault)>,
 ) -> Result<Gathering, AllocError>
@@ -82,7 +82,7 @@ fn before_groups<E: Executor>(
     ensures none { IfOk result (λ start. start.last ≡ None) }
     ensures groups { IfOk result (λ start. groups_in start.partial ≡ []) }
     ensures left { IfOk result (λ start. start.left ≡ lines - length refused.items) }
-    ensures hashed { IfOk result (λ start. HoldsText start.hasher text.items) }
+    ensures hashed { IfOk result (λ start. HoldsText start.hasher text.now) }
     ensures refusals { IfOk result (λ start. HasRefusals lines refused.items start.partial) }
 {
     let left = lines - refused.len() as u64;
@@ -90,7 +90,7 @@ fn before_groups<E: Executor>(
     Ok(Gathering {
         partial,
         last: None,
-        hasher: TextHasher::of_text(text),
+        hasher: TextHasher::of_text(alloc, text),
         left,
     })
 }
@@ -125,6 +125,6 @@ pub(crate) fn next_contents<S: Source, E: Executor>(
     let refused = next_refused(alloc, source, columns, lines)?;
     let count = next_group_count(source, shape)?;
     let text = front_text(alloc, header, columns, lines, refused.as_slice(), count)?;
-    let start = before_groups(alloc, plan, executor, text, lines, refused)?;
+    let start = before_groups(alloc, plan, executor, text.as_slice(), lines, refused)?;
     next_groups(alloc, plan, source, shape, start, count)
 }
