@@ -1,10 +1,20 @@
 //! The plain text of strings, which has no quote, no backslash and no control byte.
 ghost use Rattle.std.specs.Prelude.{◌≡◌, ◌+◌, ◌<◌, ◌≤◌, length, map};
+ghost use Rattle.std.specs.List.{list_all};
 ghost use Rattle.std.specs.Simd.Lanes.{mask_l};
-ghost use Rattle.json.specs.Run.{is_stop};
+ghost use Rattle.json.specs.Run.{is_plain, is_stop};
 ghost use Rattle.lines_json.specs.Inside.{IsPlainEnd};
 
 use std::simd::prelude::*;
+
+/// Whether a text is plain: each of its bytes stands for itself in a string.
+///
+/// Example: `a/b` is plain, and `a"b` is not.
+pub fn is_plain(text: &[u8]) -> bool
+    ensures { result ≡ list_all is_plain text.now }
+{
+    plain_end(text, 0) == text.len()
+}
 
 /// Where the plain text ends that may stand at a place: at the first quote, backslash or control byte, or at the end of the text.
 ///

@@ -100,7 +100,8 @@ fn read_string(alloc: Global, scratch: &mut Scratch, line: &str) -> Result<Value
     }
 }
 
-/// The text between the quotes of a line, where it stands there as it is, without an escape; `None` says nothing of the line.
+/// The text between the quotes of a line, where it stands there as it is, without an escape; `None` says nothing of the
+/// line.
 fn plain_string<'a>(line: &'a str) -> Option<&'a str>
     ensures { IfSome result (λ s. line.now ≡ quoted s.now) }
 {

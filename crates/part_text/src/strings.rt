@@ -1,10 +1,9 @@
 //! Texts as strings of JSON.
-ghost use Rattle.std.specs.List.{list_all};
 ghost use Rattle.std.specs.Prelude.{◌≡◌, IfOk, IsTrue};
 ghost use Rattle.json.specs.Print.{escape, quoted};
-ghost use Rattle.json.specs.Run.{is_plain};
 
 use json::Writer;
+use lines_json::is_plain;
 use std::alloc::{AllocError, Global};
 
 /// A text as a string of JSON (RFC 8259, section 7), with the shortest escapes.
@@ -18,23 +17,10 @@ pub(crate) fn json_string(alloc: Global, text: &str) -> Result<Vec<u8>, AllocErr
     Ok(writer.into_inner())
 }
 
-/// Whether a text is its own content as a string of JSON, as nothing of it has to be escaped; `false` says nothing of the text.
+/// Whether a text is its own content as a string of JSON, since nothing of it has to be escaped; `false` says nothing of
+/// the text.
 pub(crate) fn has_no_escape(text: &str) -> bool
     ensures { IsTrue result → escape text.now ≡ text.now }
 {
-    are_plain(text.as_bytes())
-}
-
-/// Whether each byte stands for itself in a string of JSON.
-fn are_plain(bytes: &[u8]) -> bool
-    ensures { result ≡ list_all is_plain bytes.now }
-{
-    bytes.iter().all(|byte| is_plain(*byte))
-}
-
-/// Whether a byte stands for itself in a string of JSON: no quote, no backslash and no control character is one.
-fn is_plain(byte: u8) -> bool
-    ensures { result ≡ is_plain byte }
-{
-    byte >= b' ' && byte != b'"' && byte != b'\\'
+    is_plain(text.as_bytes())
 }

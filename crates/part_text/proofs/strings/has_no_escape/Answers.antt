@@ -7,4 +7,4 @@ use Rattle.part_text.proofs.strings.has_no_escape.Goals as goal
 pub returns : goal.returns
 returns c plain =
     let is = c.as_bytes.ensures.value in
-    escape-plain c.args.text.now (ap (list_all is_plain) (sym is) ∙ sym c.are_plain.ensures ∙ plain)
+    escape-plain c.args.text.now (ap (list_all is_plain) (sym is) ∙ sym c.is_plain.ensures ∙ plain)
