@@ -2,22 +2,23 @@
 use Rattle.std.proofs.Common.{◌≡◌, ◌≢◌, ◌∙◌, ◌<◌, ℕ, List, Option, Some, None, Result, Ok, Err, refl, subst, sym, ap}
 use Rattle.std.proofs.KnownBytes.{Keeps-refl}
 use Rattle.std.specs.List.{flat_map}
-use Rattle.std.specs.Prelude.{IfErr, IfOk, IfSome, IsErrAnd, IsNone, IsOk, MatchResult}
+use Rattle.std.specs.Prelude.{IfErr, IfOk, IfSome, IsErrAnd, IsNone, IsOk, IsSome, MatchResult}
 use Rattle.lines.specs.Clip.{clip_lines}
 use Rattle.parts.specs.Faults.{PartedFault}
-use Rattle.parts.specs.Joining.{AnswersParts, IsReadAs}
+use Rattle.parts.specs.Joining.{AnswersParts, IsNoFault, IsReadAs}
 use Rattle.parts.specs.ReadingParts.{parts_at}
 use Rattle.parts.specs.declared.fault.PartsRefusal.{PartsRefusal}
 use Rattle.parts.specs.declared.fault.PartsRefusal.TheVariants as refusal
 use Rattle.query_plan.specs.Planned.{PlannedQuery}
 use Rattle.semantics.specs.Columns.{Field}
-use Rattle.semantics.specs.Joins.{ArePartsOf, IsJoin, IsPartialJoin, IsPartialRun, run_answer}
+use Rattle.semantics.specs.Joins.{ArePartsOf, CanBeJoined, IsJoin, IsPartialJoin, IsPartialRun, run_answer}
 use Rattle.semantics.specs.Lines.{lines}
 use Rattle.semantics.specs.Parts.{ContentsForm, concatenated, part_text}
 use Rattle.semantics.specs.Run.{IsRun, IsWithin}
 use Rattle.semantics.specs.Syntax.{TreeForm}
 use Rattle.semantics.specs.declared.join_fault.JoinFault.{JoinFault}
 use Rattle.semantics.specs.declared.join_fault.JoinFault.TheVariants.{Parts, Run}
+use Rattle.semantics.specs.declared.parts_fault.PartsFault.{PartsFault}
 use Rattle.semantics.specs.declared.run_done.Done.{Done}
 use Rattle.semantics.specs.declared.run_fault.RunFault.{RunFault}
 use Rattle.semantics.specs.declared.run_fault.RunFault.TheVariants.{Reading, OutOfMemory, ThreadNotStarted, TooManyRefused, WritingReport, WritingRefused, WritingPart}
@@ -69,10 +70,20 @@ refused-reads plan (Some bytes) (refusal.Fault fault) answers = answers
 refused-reads plan (Some bytes) refusal.Reading answers = tt
 refused-reads plan (Some bytes) refusal.OutOfMemory answers = tt
 
-refused-stops : (limit : Option ℕ) (fields : List Field) (q : TreeForm) (given : Option (List ℕ)) (why : PartsRefusal) → StopsJoin (fault_of_parts why) limit fields q given
-refused-stops limit fields q given (refusal.Fault fault) = tt
-refused-stops limit fields q given refusal.Reading = (tt, λ inputs are. tt)
-refused-stops limit fields q given refusal.OutOfMemory = (tt, λ inputs are. tt)
+-- they are no parts that can be joined
+abbrev TakesGiven : {X : Type 0} → PlannedQuery → Option (List ℕ) → Result X PartsRefusal → Type 0
+TakesGiven plan given r =
+    IfSome given (λ bytes. (inputs : List (List ℕ)) → bytes ≡ flat_map (part_text plan.fields plan.query) inputs → CanBeJoined plan.fields plan.query inputs → IsNoFault r)
+
+given-taken : (plan : PlannedQuery) (given : Option (List ℕ)) (fault : PartsFault) → TakesGiven {X = PartialState} plan given (Err (refusal.Fault fault))
+    → (inputs : List (List ℕ)) → ArePartsOf plan.fields plan.query inputs given → ¬ CanBeJoined plan.fields plan.query inputs
+given-taken plan None fault takes inputs are can = let wrong = are in absurd cc
+given-taken plan (Some bytes) fault takes inputs are can = takes inputs (let same = are in cc) can
+
+refused-stops : (limit : Option ℕ) (plan : PlannedQuery) (given : Option (List ℕ)) (why : PartsRefusal) → TakesGiven {X = PartialState} plan given (Err why) → StopsJoin (fault_of_parts why) limit plan.fields plan.query given
+refused-stops limit plan given (refusal.Fault fault) takes = given-taken plan given fault takes
+refused-stops limit plan given refusal.Reading takes = (tt, λ inputs are. tt)
+refused-stops limit plan given refusal.OutOfMemory takes = (tt, λ inputs are. tt)
 
 refused-started : (why : PartsRefusal) → fault_of_parts why ≢ Run ThreadNotStarted
 refused-started (refusal.Fault fault) = λ no. let wrong = no in absurd cc
@@ -80,12 +91,12 @@ refused-started refusal.Reading = λ no. let wrong = no in absurd cc
 refused-started refusal.OutOfMemory = λ no. let wrong = no in absurd cc
 
 pub refused : (limit : Option ℕ) (plan : PlannedQuery) (given : Option (List ℕ)) (why : PartsRefusal)
-    → IfSome given (λ bytes. AnswersParts plan (lines (clip_lines bytes)) (Err why)) → IsJoined (Err (fault_of_parts why)) limit plan given
-refused limit plan given why answers = record {
+    → IfSome given (λ bytes. AnswersParts plan (lines (clip_lines bytes)) (Err why)) → TakesGiven {X = PartialState} plan given (Err why) → IsJoined (Err (fault_of_parts why)) limit plan given
+refused limit plan given why answers takes = record {
   sound = tt;
   within = tt;
   stands = tt;
-  stops = refused-stops limit plan.fields plan.query given why;
+  stops = refused-stops limit plan given why takes;
   started = refused-started why;
   reads = refused-reads plan given why answers;
 }
@@ -130,6 +141,7 @@ pub record IsRead (plan : PlannedQuery) (given : Option (List ℕ)) (r : Result 
   pub answers : IfSome given (λ bytes. AnswersParts plan (lines (clip_lines bytes)) r)
   pub stands : IfSome given (λ bytes. (inputs : List (List ℕ)) → bytes ≡ flat_map (part_text plan.fields plan.query) inputs
       → IfOk r (λ partial. StandsForInput plan.fields plan.query partial (concatenated inputs)))
+  pub takes : TakesGiven plan given r
 
 -- what holds of an answer holds where its fault is mapped
 pub of-mapped : {T E D : Type 0} (P : Result T E → Type 0) (r : Result T E) (s : Result T D) (Q : E → D → Type 0) (x : T) → MatchResult r (λ y. s ≡ Ok y) (λ e. IsErrAnd s (Q e)) → s ≡ Ok x
@@ -149,7 +161,7 @@ of-refusal limit plan given (Err why) s (Ok z) fault is err answer read = absurd
 of-refusal limit plan given (Err why) (Ok y) (Err d) fault is err answer read = absurd is
 of-refusal limit plan given (Err why) (Err f) (Err d) fault is err answer read =
     let same : fault_of_parts why ≡ d = let e = err in let a = answer in let i = is in cc in
-    subst (λ (x : JoinFault). IsJoined (Err x) limit plan given) same (refused limit plan given why read.answers)
+    subst (λ (x : JoinFault). IsJoined (Err x) limit plan given) same (refused limit plan given why read.answers read.takes)
 
 pub of-over : {X : Type 0} (limit : Option ℕ) (plan : PlannedQuery) (given : Option (List ℕ)) (partial : PartialState) (r : Result X RunFault) (s : Result X JoinFault)
     (t : Result PartialState JoinFault) (fault : JoinFault)
@@ -180,6 +192,7 @@ is-join r s limit fields q given whole oo on eo en same run within stands = reco
   is_run = λ inputs are.
       subst (λ (o : Option (Result Done RunFault)). IfSome o (λ answer. IsRun answer limit fields q (Some (concatenated inputs)) oo on eo en)) (sym same)
       (run limit (Some (concatenated inputs)) within (stands-itself fields q whole (concatenated inputs) (stands inputs are)));
+  takes = λ inputs are can. subst (λ (o : Option (Result Done RunFault)). IsSome o) (sym same) tt;
   is_some_run = subst (λ (o : Option (Result Done RunFault)). IfSome o (λ answer. IsRun answer limit fields q None oo on eo en)) (sym same) (run limit None within tt);
   keeps = λ none. let wrong = subst (λ (o : Option (Result Done RunFault)). IsNone o) same none in absurd cc;
 }
@@ -194,6 +207,7 @@ is-partial-join r s limit fields q given whole oo on same run within stands = re
   is_run = λ inputs are.
       subst (λ (o : Option (Result Done RunFault)). IfSome o (λ answer. IsPartialRun answer limit fields q (Some (concatenated inputs)) oo on)) (sym same)
       (run limit (Some (concatenated inputs)) within (stands-itself fields q whole (concatenated inputs) (stands inputs are)));
+  takes = λ inputs are can. subst (λ (o : Option (Result Done RunFault)). IsSome o) (sym same) tt;
   is_some_run = subst (λ (o : Option (Result Done RunFault)). IfSome o (λ answer. IsPartialRun answer limit fields q None oo on)) (sym same) (run limit None within tt);
   keeps = λ none. let wrong = subst (λ (o : Option (Result Done RunFault)). IsNone o) same none in absurd cc;
 }
@@ -201,9 +215,10 @@ is-partial-join r s limit fields q given whole oo on same run within stands = re
 -- joins that fail before anything is written
 stopped : (fault : JoinFault) (limit : Option ℕ) (fields : List Field) (q : TreeForm) (given out err : Option (List ℕ)) → StopsJoin fault limit fields q given
     → IsJoin (Err fault) limit fields q given out out err err
-stopped (Parts fault) limit fields q given out err stops = record { is_run = λ inputs are. tt; is_some_run = tt; keeps = λ _. (Keeps-refl out, Keeps-refl err) }
+stopped (Parts fault) limit fields q given out err stops = record { is_run = λ inputs are. tt; takes = stops; is_some_run = tt; keeps = λ _. (Keeps-refl out, Keeps-refl err) }
 stopped (Run fault) limit fields q given out err stops = record {
   is_run = λ inputs are. run-stopped (Err fault) fault limit fields q (Some (concatenated inputs)) out err refl (stops.1 inputs are);
+  takes = λ inputs are can. tt;
   is_some_run = run-stopped (Err fault) fault limit fields q None out err refl stops.0;
   keeps = λ none. let wrong = none in absurd cc;
 }
@@ -215,9 +230,10 @@ join-stopped (Err f) fault limit fields q given out err is stops = stopped f lim
 
 partial-stopped : (fault : JoinFault) (limit : Option ℕ) (fields : List Field) (q : TreeForm) (given out : Option (List ℕ)) → StopsJoin fault limit fields q given
     → IsPartialJoin (Err fault) limit fields q given out out
-partial-stopped (Parts fault) limit fields q given out stops = record { is_run = λ inputs are. tt; is_some_run = tt; keeps = λ _. Keeps-refl out }
+partial-stopped (Parts fault) limit fields q given out stops = record { is_run = λ inputs are. tt; takes = stops; is_some_run = tt; keeps = λ _. Keeps-refl out }
 partial-stopped (Run fault) limit fields q given out stops = record {
   is_run = λ inputs are. part-stopped (Err fault) fault limit fields q (Some (concatenated inputs)) out refl (stops.1 inputs are);
+  takes = λ inputs are can. tt;
   is_some_run = part-stopped (Err fault) fault limit fields q None out refl stops.0;
   keeps = λ none. let wrong = none in absurd cc;
 }

@@ -1,5 +1,5 @@
 -- What the reading of parts for a join answers. Private calls alone speak of it.
-use Rattle.std.specs.Prelude.{◌≡◌, ◌≢◌, ◌<◌, ⊤, ℕ, List, Option, Some, None, Result, IfErr, IfOk, IfSome}
+use Rattle.std.specs.Prelude.{◌≡◌, ◌≢◌, ◌<◌, ℕ, List, Option, Some, None, Result, IfErr, IfOk, IfSome}
 use Rattle.lines.specs.Clip.{clip_lines}
 use Rattle.parts.specs.Joining.{IsReadAs}
 use Rattle.parts.specs.ReadingParts.{parts_at}
@@ -7,7 +7,7 @@ use Rattle.parts.specs.declared.fault.PartsRefusal.{PartsRefusal}
 use Rattle.parts.specs.declared.fault.PartsRefusal.TheVariants as refusal
 use Rattle.query_plan.specs.Planned.{PlannedQuery}
 use Rattle.semantics.specs.Columns.{Field}
-use Rattle.semantics.specs.Joins.{ArePartsOf}
+use Rattle.semantics.specs.Joins.{ArePartsOf, CanBeJoined}
 use Rattle.semantics.specs.Lines.{lines}
 use Rattle.semantics.specs.Parts.{concatenated}
 use Rattle.semantics.specs.Run.{IsWithin}
@@ -32,10 +32,10 @@ abbrev pub IsOver : Option ℕ → ℕ → RunFault → Type 0
 IsOver limit count (TooManyRefused most) = (limit ≡ Some most) × (most < count)
 IsOver limit count fault = ⊥
 
--- Before anything is written a join fails by a fault of the parts, or as a run may over the inputs whose parts were
--- given, one behind the other, and over some input.
+-- Before anything is written a join fails by a fault of the parts, where no parts that can be joined were given, or
+-- as a run may over the inputs whose parts were given, one behind the other, and over some input.
 abbrev pub StopsJoin : JoinFault → Option ℕ → List Field → TreeForm → Option (List ℕ) → Type 0
-StopsJoin (Parts fault) limit fields q given = ⊤
+StopsJoin (Parts fault) limit fields q given = (inputs : List (List ℕ)) → ArePartsOf fields q inputs given → ¬ CanBeJoined fields q inputs
 StopsJoin (Run fault) limit fields q given =
     StopsRun fault limit fields None
     × ((inputs : List (List ℕ)) → ArePartsOf fields q inputs given → StopsRun fault limit fields (Some (concatenated inputs)))

@@ -73,12 +73,15 @@ module _ (fields : List Field) (q : TreeForm) where
   abbrev cut : List ℕ → List (List ℕ)
   cut bytes = map (take clipped_len) (lines bytes)
 
-  first-part : (input : List ℕ) (inputs : List (List ℕ)) → cut (flat_map text (input ∷ inputs)) ≡ map (take clipped_len) (map value_text (all-values input)) ++ cut (flat_map text inputs)
+  pub first-part : (input : List ℕ) (inputs : List (List ℕ)) → cut (flat_map text (input ∷ inputs)) ≡ map (take clipped_len) (map value_text (all-values input)) ++ cut (flat_map text inputs)
   first-part input inputs =
       ap cut (flat_map-cons text input inputs)
       ∙ ap (map (take clipped_len)) (lines-whole_lines (text input) (flat_map text inputs) (inr (part-feed input)))
       ∙ map-append (take clipped_len) (lines (text input)) (lines (flat_map text inputs))
       ∙ ap (λ ls. map (take clipped_len) ls ++ cut (flat_map text inputs)) (part-lines input)
+
+  pub some-lines : (input : List ℕ) (inputs : List (List ℕ)) → cut (flat_map text (input ∷ inputs)) ≢ []
+  some-lines input inputs e = let wrong : map (take clipped_len) (map value_text (all-values input)) ++ cut (flat_map text inputs) ≡ [] = sym (first-part input inputs) ∙ e in absurd cc
 
   module _ (schema : IsSchema fields) where
     abbrev over : List ℕ → ContentsForm
@@ -88,9 +91,6 @@ module _ (fields : List Field) (q : TreeForm) where
     one-back before s input inputs stands =
         part-again fields q before (over input) (encode_lower (sha256 (text_of (part_values fields q input)))) (names-alone fields schema) (entries-shaped fields q (kept_records fields q (valid_records fields input))) s
         (map (take clipped_len) (map value_text (all-values input))) (cut (flat_map text inputs)) (clipped-reads (all-values input)) (stands ∙ first-part input inputs)
-
-    some-lines : (input : List ℕ) (inputs : List (List ℕ)) → cut (flat_map text (input ∷ inputs)) ≢ []
-    some-lines input inputs e = let wrong : map (take clipped_len) (map value_text (all-values input)) ++ cut (flat_map text inputs) ≡ [] = sym (first-part input inputs) ∙ e in absurd cc
 
     first-and-others : (c : ContentsForm) (others : Result (List ContentsForm) PartedFault) (input : List ℕ) (inputs : List (List ℕ)) → c ≡ over input → IfOk others (λ cs. cs ≡ map over inputs)
         → IfOk (behind_part c others) (λ cs. cs ≡ map over (input ∷ inputs))

@@ -1,10 +1,13 @@
 -- The text of a part, computed on examples.
-use Rattle.std.proofs.Common.{◌≡◌, ℕ, pos, false, List, [], ◌∷◌, codes, refl, None, Some}
+use Rattle.std.proofs.Common.{◌≡◌, ℕ, pos, false, List, [], ◌∷◌, codes, length, refl, None, Some, arith}
 use Rattle.std.specs.Fmt.{digits}
 use Rattle.std.specs.Str.{is_utf8, chars}
 use Rattle.json.proofs.OnLiterals.{json_on_literals}
+use Rattle.json.specs.Print.{quoted}
 use Rattle.serde_json.proofs.OnLiterals.{serde_json_on_literals}
+use Rattle.semantics.specs.Canonical.{canonical_text}
 use Rattle.semantics.specs.Columns.{Field}
+use Rattle.semantics.specs.Joins.{CanBeJoined}
 use Rattle.semantics.specs.Syntax.{TreeForm, ElementForm, FunctionForm, name, function, over_all, over_filtered, rollup, expression, literal, compare}
 use Rattle.semantics.specs.Words.{reserved_word}
 use Rattle.semantics.specs.declared.aggregate.Aggregate.TheVariants as aggregate
@@ -110,3 +113,27 @@ first_two = refl
 
 last_two : concatenated (codes "a" ∷ concatenated (codes "b" ∷ codes "c" ∷ []) ∷ []) ≡ codes "a\nb\nc\n"
 last_two = refl
+
+-- ---- inputs whose parts every join takes
+
+columns_length : length (quoted (columns_text fields)) ≡ 21
+unfolding json_on_literals
+columns_length = refl
+
+query_length : length (quoted (canonical_text (query sum by_shop))) ≡ 64
+unfolding json_on_literals digits reserved_word
+query_length = refl
+
+-- the four lines, and an input without lines behind them
+four_joined : CanBeJoined fields (query sum by_shop) (four ∷ [] ∷ [])
+unfolding four
+four_joined = record {
+  some = λ none. let wrong = none in absurd cc;
+  few = omega arith;
+  columns = omega (arith, columns_length);
+  query = omega (arith, query_length);
+}
+
+-- of no inputs there is no part
+none_joined : CanBeJoined fields (query sum by_shop) [] → ⊥
+none_joined can = can.some refl

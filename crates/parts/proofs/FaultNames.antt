@@ -17,23 +17,23 @@ use Rattle.parts.proofs.Back.{NamesAlone}
 
 -- ---- names
 
-abbrev column : Field
+abbrev pub column : Field
 column = record { name = []; kind = type.Int }
 
-abbrev name_of_field : Field → List ℕ
+abbrev pub name_of_field : Field → List ℕ
 name_of_field field = field.name
 
 equal-names : (a b : List ℕ) → bytes_eq a b ≡ true → a ≡ b
 equal-names a b e = (slice_eq-Decides (λ x y. (eqb-true x y, eq-eqb x y)) a b (bytes_eq a b) refl).0 e
 
 module _ (fields : List Field) (schema : IsSchema fields) where
-  name-there : (i : ℕ) → i < length fields → get_or (names_of fields) i [] ≡ (get_or fields i column).name
+  pub name-there : (i : ℕ) → i < length fields → get_or (names_of fields) i [] ≡ (get_or fields i column).name
   name-there i l = get_or-map name_of_field fields i column [] l
 
-  name-at : (place : ℕ) → name_at fields place ≡ get_or (names_of fields) place []
+  pub name-at : (place : ℕ) → name_at fields place ≡ get_or (names_of fields) place []
   name-at place = unwrap_or-slice_get (names_of fields) place []
 
-  size : length (names_of fields) ≡ length fields
+  pub size : length (names_of fields) ≡ length fields
   size = length-map fields name_of_field
 
   -- no column has an empty name

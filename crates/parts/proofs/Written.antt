@@ -1,10 +1,8 @@
 -- The groups of records have the shape that a query asks of its groups.
-use Rattle.std.proofs.Common.{◌≡◌, ℕ, List, [], ◌∷◌, length, map, Option, Some, None, Bool, true, false, cond, refl, sym, subst, ◌∙◌}
+use Rattle.std.proofs.Common.{◌≡◌, ℕ, List, [], ◌∷◌, length, map, Option, Some, None, Bool, refl, sym, subst, ◌∙◌}
 use Rattle.std.proofs.lemmas.List.{length-map}
 use Rattle.std.specs.List.{AllByRecursion, AllZip}
-use Rattle.std.specs.Ordering.{is_gt}
 use Rattle.std.specs.Prelude.{option_map}
-use Rattle.std.specs.declared.cmp.Ordering.{Ordering}
 use Rattle.semantics.specs.GroupStates.{entries_over, entry_over, function_state, state_by}
 use Rattle.part_groups.specs.Groups.{HasKind, HasShape, HaveShape}
 use Rattle.query_resolve.specs.Functions.{indexed_functions}
@@ -13,7 +11,7 @@ use Rattle.semantics.specs.Aggregates.{AggregateFunction}
 use Rattle.semantics.specs.Columns.{Field}
 use Rattle.semantics.specs.Found.{aggregate_functions}
 use Rattle.semantics.specs.Groups.{Key, Row, key_order, keys, members, project, same_key, value_at}
-use Rattle.semantics.specs.Order.{in_order, insertion}
+use Rattle.semantics.specs.Order.{in_order}
 use Rattle.semantics.specs.Sets.{grouping_places}
 use Rattle.semantics.specs.Syntax.{TreeForm}
 use Rattle.semantics.specs.declared.function.ColumnFunction.{ColumnFunction}
@@ -22,21 +20,8 @@ use Rattle.tables.proofs.Bags.{all-distinct, all-everywhere, all-map}
 use Rattle.tables.proofs.Bound.{bound-functions}
 use Rattle.tables.specs.Functions.{filter_tests}
 use Rattle.tables_groups.specs.Functions.{aggregates_of, filter_at}
+use Rattle.parts.proofs.Lists.{all-ordered, weaker}
 use Rattle.parts.specs.ReadingParts.{shape_under, state_kind, state_kind_by, type_at}
-
--- ---- what holds of each thing holds of each in order
-
-all-inserted : {X : Type 0} (order : X → X → Ordering) (P : X → Type 0) (x : X) (ys : List X) → P x → AllByRecursion P ys → AllByRecursion P (insertion order x ys)
-all-inserted order P x [] h all = (h, tt)
-all-inserted order P x (y ∷ ys) h all =
-    elim (is_gt (order x y)) as (λ (later : Bool). AllByRecursion P (cond later (y ∷ insertion order x ys) (x ∷ y ∷ ys))) [
-      | true ↦ (all.0, all-inserted order P x ys h all.1)
-      | false ↦ (h, all)
-    ]
-
-all-ordered : {X : Type 0} (order : X → X → Ordering) (P : X → Type 0) (xs : List X) → AllByRecursion P xs → AllByRecursion P (in_order order xs)
-all-ordered order P [] all = tt
-all-ordered order P (x ∷ xs) all = all-inserted order P x (in_order order xs) all.0 (all-ordered order P xs all.1)
 
 -- ---- keys
 
@@ -83,7 +68,3 @@ entries-shaped fields q records =
     let one : (key : Key) → length key ≡ length places → HasShape (shape_under fields q) (entry_over places functions records key) =
     λ key wide. record { key = wide ∙ sym (length-map places (type_at fields)); states = states key } in
     all-map (HasShape (shape_under fields q)) (entry_over places functions records) (in_order key_order (keys places records)) (weaker one (in_order key_order (keys places records)) (all-ordered key_order (λ key. length key ≡ length places) (keys places records) (keys-wide places records)))
-  where
-    weaker : {X : Type 0} {P Q : X → Type 0} → ((x : X) → P x → Q x) → (xs : List X) → AllByRecursion P xs → AllByRecursion Q xs
-    weaker h [] all = tt
-    weaker h (x ∷ xs) all = (h x all.0, weaker h xs all.1)

@@ -52,6 +52,13 @@ AnswersParts plan ls (Err (refusal.Fault fault)) = parts_at plan.fields plan.que
 AnswersParts plan ls (Err refusal.Reading) = ⊤
 AnswersParts plan ls (Err refusal.OutOfMemory) = ⊤
 
+-- What is answered is no fault of parts.
+abbrev pub IsNoFault : {X : Type 0} → Result X PartsRefusal → Type 0
+IsNoFault (Ok x) = ⊤
+IsNoFault (Err (refusal.Fault fault)) = ⊥
+IsNoFault (Err refusal.Reading) = ⊤
+IsNoFault (Err refusal.OutOfMemory) = ⊤
+
 -- ---- what a join says of a reading
 
 -- Where a join is done, what was read is parts; a fault of the parts that it answers is their first one; of

@@ -8,7 +8,8 @@ ghost use Rattle.tables.specs.Partials.{StandsForInput};
 ghost use Rattle.tables.specs.Sound.{IsSoundUnder};
 ghost use Rattle.parts.specs.Faults.{GivesParts, in_part, refusal_in};
 ghost use Rattle.parts.specs.Gathering.{IsOfOnePiece, contents_in};
-ghost use Rattle.parts.specs.Joining.{AnswersParts, JoinsBehind};
+ghost use Rattle.parts.specs.Joining.{AnswersParts, IsNoFault, JoinsBehind};
+ghost use Rattle.semantics.specs.Joins.{CanBeJoined};
 ghost use Rattle.semantics.specs.Parts.{columns_text, concatenated, part_text};
 ghost use Rattle.parts.specs.ReadingParts.{part_at, shape_under, with_fault};
 ghost use Rattle.parts.specs.Reader.{IsKnown, stream_of};
@@ -112,8 +113,9 @@ fn join_rest<R: Read + Drop, E: Executor>(
 /// The first fault of the parts, from the front: `NoPart` where there is no line; `NotAPart` or `OtherVersion` where a part
 /// should begin and another line stands; `OtherColumns` and `OtherQuery` where a part is of others than the plan; and where
 /// a line is not what should stand there, `NotAValue`, `UnexpectedValue`, `OutOfOrder`, `OutOfRange`, `EndsTooEarly`,
-/// `WrongChecksum` or `TooManyLines`. `Reading` where a read fails or the input has 2^63 bytes or more, `OutOfMemory` where
-/// memory runs out.
+/// `WrongChecksum` or `TooManyLines`. The parts of inputs have none of these, where the inputs have fewer than 2^63 lines
+/// together, and the columns and the canonical query at most 1,000,000 bytes each, as strings of JSON. `Reading` where a
+/// read fails or the input has 2^63 bytes or more, `OutOfMemory` where memory runs out.
 pub fn read_parts<R: Read + Drop, E: Executor>(
     alloc: Global,
     plan: &Plan,
@@ -128,6 +130,9 @@ pub fn read_parts<R: Read + Drop, E: Executor>(
         → bytes ≡ flat_map (part_text plan.now.fields plan.now.query) inputs
         → IfOk result (λ partial. StandsForInput plan.now.fields plan.now.query partial
         (concatenated inputs))) }
+    ensures takes { IfSome (R.remaining reader) (λ bytes. (inputs : List (List ℕ))
+        → bytes ≡ flat_map (part_text plan.now.fields plan.now.query) inputs
+        → CanBeJoined plan.now.fields plan.now.query inputs → IsNoFault result) }
 {
     contents_law();
     let columns = plan.schema().columns();

@@ -1,9 +1,12 @@
 -- What a run writes whose result is a part, and what a join of parts writes.
 use Rattle.std.specs.Io.KnownBytes.{Appends, Keeps}
 use Rattle.std.specs.List.{flat_map}
-use Rattle.std.specs.Prelude.{◌≡◌, ◌<◌, ℕ, List, Option, Some, None, Result, Ok, Err, IfErr, IfSome, IsNone, OnOk, length}
+use Rattle.std.specs.Prelude.{◌≡◌, ◌≢◌, ◌<◌, ◌≤◌, ◌^◌, ℕ, List, [], Option, Some, None, Result, Ok, Err, IfErr, IfSome, IsNone, IsSome, OnOk, length}
+use Rattle.json.specs.Print.{quoted}
+use Rattle.semantics.specs.Canonical.{canonical_text}
 use Rattle.semantics.specs.Columns.{Field}
-use Rattle.semantics.specs.Parts.{concatenated, part_text}
+use Rattle.semantics.specs.Lines.{lines}
+use Rattle.semantics.specs.Parts.{columns_text, concatenated, part_text}
 use Rattle.semantics.specs.Records.{refused_lines}
 use Rattle.semantics.specs.Run.{AppendsBeginning, IsAnswer, IsRun, IsWithin}
 use Rattle.semantics.specs.Syntax.{TreeForm}
@@ -42,6 +45,14 @@ pub record IsPartialRun (result : Result Done RunFault) (limit : Option ℕ) (fi
 abbrev pub ArePartsOf : List Field → TreeForm → List (List ℕ) → Option (List ℕ) → Type 0
 ArePartsOf fields q inputs given = given ≡ Some (flat_map (part_text fields q) inputs)
 
+-- Inputs whose parts every join takes: there is one at least, together they have fewer than 2^63 lines,
+-- and the columns and the query are no longer than this, each as a string of JSON, in bytes.
+pub record CanBeJoined (fields : List Field) (q : TreeForm) (inputs : List (List ℕ)) : Type 0 where
+  pub some : inputs ≢ []
+  pub few : length (lines (concatenated inputs)) < 2 ^ 63
+  pub columns : length (quoted (columns_text fields)) ≤ 1000000
+  pub query : length (quoted (canonical_text q)) ≤ 1000000
+
 -- What a join answers as a run does. A fault of the parts is no answer of a run.
 abbrev pub run_answer : Result Done JoinFault → Option (Result Done RunFault)
 run_answer (Ok done) = Some (Ok done)
@@ -49,11 +60,12 @@ run_answer (Err (Run fault)) = Some (Err fault)
 run_answer (Err (Parts fault)) = None
 
 -- A join of parts answers and writes what a run over their inputs does, one behind the other, unless
--- it answers a fault of the parts; whatever is given, it does what a run over some input might; and
--- where it answers a fault of the parts, nothing was written.
+-- it answers a fault of the parts, which it does of no parts that can be joined; whatever is given, it
+-- does what a run over some input might; and where it answers a fault of the parts, nothing was written.
 pub record IsJoin (result : Result Done JoinFault) (limit : Option ℕ) (fields : List Field) (q : TreeForm) (given out_old out_new err_old err_new : Option (List ℕ)) : Type 0 where
   pub is_run : (inputs : List (List ℕ)) → ArePartsOf fields q inputs given
       → IfSome (run_answer result) (λ answer. IsRun answer limit fields q (Some (concatenated inputs)) out_old out_new err_old err_new)
+  pub takes : (inputs : List (List ℕ)) → ArePartsOf fields q inputs given → CanBeJoined fields q inputs → IsSome (run_answer result)
   pub is_some_run : IfSome (run_answer result) (λ answer. IsRun answer limit fields q None out_old out_new err_old err_new)
   pub keeps : IsNone (run_answer result) → Keeps out_old out_new × Keeps err_old err_new
 
@@ -61,5 +73,6 @@ pub record IsJoin (result : Result Done JoinFault) (limit : Option ℕ) (fields 
 pub record IsPartialJoin (result : Result Done JoinFault) (limit : Option ℕ) (fields : List Field) (q : TreeForm) (given out_old out_new : Option (List ℕ)) : Type 0 where
   pub is_run : (inputs : List (List ℕ)) → ArePartsOf fields q inputs given
       → IfSome (run_answer result) (λ answer. IsPartialRun answer limit fields q (Some (concatenated inputs)) out_old out_new)
+  pub takes : (inputs : List (List ℕ)) → ArePartsOf fields q inputs given → CanBeJoined fields q inputs → IsSome (run_answer result)
   pub is_some_run : IfSome (run_answer result) (λ answer. IsPartialRun answer limit fields q None out_old out_new)
   pub keeps : IsNone (run_answer result) → Keeps out_old out_new

@@ -1,10 +1,14 @@
 use Rattle.std.proofs.Common.{◌≢◌, [], subst}
 use Rattle.std.proofs.lemmas.Result.{err_from_is_err_and}
 use Rattle.semantics.specs.Columns.{Field}
-use Rattle.std.specs.Prelude.{List}
+use Rattle.std.specs.Prelude.{List, ℕ, IsTrue, string_bytes}
+use Rattle.std.specs.Str.{is_utf8}
+use Rattle.semantics.specs.Canonical.{canonical_text}
 use Rattle.values.specs.Schema.{IsSchema}
+use Rattle.part_text.proofs.Spellings.{utf8-held}
 use Rattle.parts.specs.Reader.{IsKnown, stream_of}
 use Rattle.parts.proofs.Answering.{known-all, known-fault, known-stands}
+use Rattle.parts.proofs.Takes.{known-taken, none-given}
 use Rattle.parts.proofs.joining.read_parts.Goals as goal
 
 pub returns-in_err-first-clause-answers : goal.returns-in_err-first-clause-answers
@@ -28,3 +32,21 @@ pub returns-clause-stands : goal.returns-clause-stands
 returns-clause-stands g c =
     let schema : IsSchema c.args.plan.now.fields = subst (λ (fields : List Field). IsSchema fields) c.schema.ensures.schema c.columns-columns.ensures.schema in
     known-stands c.args.plan.now (g.R.Read.remaining c.args.reader) c.join_rest.result schema (returns-clause-answers g c)
+
+pub returns-then-not-branch-clause-takes : goal.returns-then-not-branch-clause-takes
+returns-then-not-branch-clause-takes g c =
+    none-given c.args.plan.now c.in_ok-reader.reader (g.R.Read.remaining c.args.reader) c.in_ok-reader.ensures.left (λ known. (c.in_ok-has_line.ensures.none known).0 c.if-not-branch.true)
+
+pub returns-in_err-first-clause-takes : goal.returns-in_err-first-clause-takes
+returns-in_err-first-clause-takes g c =
+    let header = c.in_ok-header.header in
+    let schema : IsSchema c.args.plan.now.fields = subst (λ (fields : List Field). IsSchema fields) c.schema.ensures.schema c.columns-columns.ensures.schema in
+    let utf8 : IsTrue (is_utf8 (canonical_text c.args.plan.now.query)) = subst (λ (t : List ℕ). IsTrue (is_utf8 t)) c.in_ok-header.ensures.query (utf8-held (string_bytes header.query) header.query.ok) in
+    known-taken c.args.plan.now (g.R.Read.remaining c.args.reader) c.from_residual-in_err-first.result schema utf8 (returns-in_err-first-clause-answers g c)
+
+pub returns-clause-takes : goal.returns-clause-takes
+returns-clause-takes g c =
+    let header = c.in_ok-header.header in
+    let schema : IsSchema c.args.plan.now.fields = subst (λ (fields : List Field). IsSchema fields) c.schema.ensures.schema c.columns-columns.ensures.schema in
+    let utf8 : IsTrue (is_utf8 (canonical_text c.args.plan.now.query)) = subst (λ (t : List ℕ). IsTrue (is_utf8 t)) c.in_ok-header.ensures.query (utf8-held (string_bytes header.query) header.query.ok) in
+    known-taken c.args.plan.now (g.R.Read.remaining c.args.reader) c.join_rest.result schema utf8 (returns-clause-answers g c)

@@ -1,0 +1,112 @@
+-- The groups of records are groups that the reader of parts takes.
+use Rattle.std.proofs.Common.{◌≡◌, ◌+◌, ◌≤◌, ℕ, Bool, true, false, cond, List, [], ◌∷◌, length, map, None, refl, sym, ap, ◌∙◌, arith}
+use Rattle.std.proofs.lemmas.List.{length-map}
+use Rattle.std.specs.List.{AllByRecursion}
+use Rattle.std.specs.List.Sorted.{IsStrictlySortedBy}
+use Rattle.std.specs.Ordering.{is_gt}
+use Rattle.std.specs.declared.cmp.Ordering.{Ordering}
+use Rattle.semantics.specs.Aggregates.{AggregateFunction}
+use Rattle.semantics.specs.Columns.{Field}
+use Rattle.semantics.specs.Found.{aggregate_functions, group_summary}
+use Rattle.semantics.specs.GroupStates.{entries_over, entry_over, function_state}
+use Rattle.semantics.specs.Groups.{Key, Row, key_order, keys, members, project, same_key}
+use Rattle.semantics.specs.Order.{in_order, insertion}
+use Rattle.semantics.specs.Records.{Fits}
+use Rattle.semantics.specs.Sets.{grouping_places}
+use Rattle.semantics.specs.Syntax.{TreeForm}
+use Rattle.tables_groups.specs.Bags.{SameBag, weigh}
+use Rattle.tables_groups.proofs.Ascending.{in_order-sorted}
+use Rattle.tables_groups.proofs.Bags.{weigh-map}
+use Rattle.tables_groups.proofs.Covering.{lines-add_up}
+use Rattle.tables_groups.proofs.GroupsLaw.{keys-distinct}
+use Rattle.tables_groups.proofs.Order.{key_total}
+use Rattle.tables.proofs.Bags.{all-everywhere, all-filter}
+use Rattle.part_groups.specs.Groups.{ShapeForm}
+use Rattle.part_groups.specs.Known.{AreGroupsFor, AreStatesFor, IsAbove, IsKeyFor}
+use Rattle.part_groups.specs.Reading.{Before, after}
+use Rattle.parts.specs.ReadingParts.{can_have, shape_under, type_at}
+use Rattle.parts.proofs.Lists.{all-ordered, distinct-le, length-ordered}
+use Rattle.parts.proofs.RecordStates.{keys-fit, states-fit}
+
+-- ---- a list in order
+
+weigh-inserted : {X : Type 0} (order : X → X → Ordering) (weight : X → ℕ) (x : X) (ys : List X) → weigh weight (insertion order x ys) ≡ weight x + weigh weight ys
+weigh-inserted order weight x [] = refl
+weigh-inserted order weight x (y ∷ ys) =
+    elim (is_gt (order x y)) as (λ (later : Bool). weigh weight (cond later (y ∷ insertion order x ys) (x ∷ y ∷ ys)) ≡ weight x + (weight y + weigh weight ys)) [
+      | true ↦ let h = weigh-inserted order weight x ys in omega (arith, h)
+      | false ↦ refl
+    ]
+
+-- it has the same things
+bag-ordered : {X : Type 0} (order : X → X → Ordering) (xs : List X) → SameBag (in_order order xs) xs
+bag-ordered order [] weight = refl
+bag-ordered order (x ∷ xs) weight = weigh-inserted order weight x (in_order order xs) ∙ ap (λ (n : ℕ). weight x + n) (bag-ordered order xs weight)
+
+-- ---- the keys of records
+
+keys-few : (set : List ℕ) (rows : List Row) → length (keys set rows) ≤ length rows + 1
+keys-few [] rows = omega arith
+keys-few (place ∷ places) rows =
+    let few = distinct-le same_key (map (project (place ∷ places)) rows) in
+    let same = length-map rows (project (place ∷ places)) in
+    omega (arith, few, same)
+
+-- the members of all keys, in order, are as many as the records
+members-counted : (set : List ℕ) (rows : List Row) → weigh (λ key. length (members set key rows)) (in_order key_order (keys set rows)) ≡ length rows
+members-counted set rows =
+    bag-ordered key_order (keys set rows) (λ key. length (members set key rows))
+    ∙ sym (weigh-map (λ group. group.lines) (λ key. group_summary [] key (members set key rows)) (keys set rows))
+    ∙ lines-add_up set [] rows
+
+-- ---- groups
+
+-- The groups of these keys fit, one behind the other, where each key does, is above the last one and before the keys behind it,
+-- and there are no more members of them all than are left.
+entries-fit : (shape : ShapeForm) (set : List ℕ) (functions : List AggregateFunction) (rows : List Row)
+    → ((key : Key) → AreStatesFor (length (members set key rows)) shape.states (map (λ f. function_state f (members set key rows)) functions))
+    → (before : Before) (ks : List Key) → AllByRecursion (IsKeyFor shape.columns) ks → AllByRecursion (IsAbove key_order before.last) ks → IsStrictlySortedBy key_order ks
+    → weigh (λ key. length (members set key rows)) ks ≤ before.left
+    → AreGroupsFor shape before (map (entry_over set functions rows) ks)
+unfolding IsStrictlySortedBy
+entries-fit shape set functions rows states before [] fit above sorted few = tt
+entries-fit shape set functions rows states before (k ∷ ks) fit above sorted few = (
+  record { key = fit.0; above = above.0; members = omega (arith, few); states = states k },
+  entries-fit shape set functions rows states (after before (entry_over set functions rows k)) ks fit.1 sorted.0 sorted.1 (omega (arith, few)),
+)
+
+-- the groups of records that fit are read, where no fewer members are left than there are records
+pub groups-fit : (fields : List Field) (q : TreeForm) (rows : List Row) (left : ℕ) → AllByRecursion (Fits fields) rows → length rows ≤ left
+    → AreGroupsFor (shape_under fields q) (record { last = None; left = left }) (entries_over (grouping_places fields q) (aggregate_functions fields q) rows)
+groups-fit fields q rows left fit few =
+    let set = grouping_places fields q in
+    let ks = keys set rows in
+    let counted = members-counted set rows in
+    entries-fit (shape_under fields q) set (aggregate_functions fields q) rows
+    (λ key. states-fit fields q (members set key rows) (all-filter (Fits fields) (λ row. same_key key (project set row)) rows fit))
+    (record { last = None; left = left }) (in_order key_order ks)
+    (all-ordered key_order (IsKeyFor (map (type_at fields) set)) ks (keys-fit fields set rows fit))
+    (all-everywhere (IsAbove key_order None) (in_order key_order ks) (λ key. tt))
+    (in_order-sorted key_total ks (keys-distinct set rows))
+    (omega (arith, counted, few))
+
+possible : (fields : List Field) (set : List ℕ) (functions : List AggregateFunction) (rows : List Row)
+    → can_have (map (type_at fields) set) (length (entries_over set functions rows)) ≡ true
+possible fields [] functions rows = refl
+possible fields (place ∷ places) functions rows = refl
+
+-- without grouping columns there is exactly one group
+pub groups-possible : (fields : List Field) (q : TreeForm) (rows : List Row)
+    → can_have (shape_under fields q).columns (length (entries_over (grouping_places fields q) (aggregate_functions fields q) rows)) ≡ true
+groups-possible fields q rows = possible fields (grouping_places fields q) (aggregate_functions fields q) rows
+
+-- there are no more groups than records, but for the one of no records
+pub groups-few : (fields : List Field) (q : TreeForm) (rows : List Row)
+    → length (entries_over (grouping_places fields q) (aggregate_functions fields q) rows) ≤ length rows + 1
+groups-few fields q rows =
+    let set = grouping_places fields q in
+    let ks = keys set rows in
+    let same = length-map (in_order key_order ks) (entry_over set (aggregate_functions fields q) rows) in
+    let ordered = length-ordered key_order ks in
+    let few = keys-few set rows in
+    omega (arith, same, ordered, few)

@@ -1,0 +1,212 @@
+-- The keys and the states of records that fit a schema are such as a reader of groups asks.
+use Rattle.std.proofs.Common.{◌≡◌, ◌≢◌, ◌^◌, ◌≤◌, ◌-ℤ◌, ◌≤ℤ◌, ℕ, zero, suc, ℤ, pos, Bool, true, false, true≢false, not, cond, List, [], ◌∷◌, filter, filter_map, length, map, Option, Some, None, IfSome, option_map, refl, sym, ap, subst, ◌∙◌, arith}
+use Rattle.std.proofs.lemmas.Int.{ints}
+use Rattle.std.proofs.lemmas.List.{length-map}
+use Rattle.std.specs.List.{AllByRecursion, cons_option, list_all}
+use Rattle.std.specs.List.Sorted.{IsStrictlySortedBy}
+use Rattle.std.specs.Ordering.{is_gt, is_lt}
+use Rattle.std.specs.declared.cmp.Ordering.{Ordering}
+use Rattle.semantics.specs.Aggregates.{AggregateFunction, column_numbers, column_values, greatest, is_present, least, number_of, numbers, present, same_value, total}
+use Rattle.semantics.specs.Columns.{Field}
+use Rattle.semantics.specs.Found.{aggregate_functions}
+use Rattle.semantics.specs.GroupStates.{different_values, function_state, state_by, state_over}
+use Rattle.semantics.specs.Groups.{Row, keys, project, same_key, value_at}
+use Rattle.semantics.specs.Names.{distinct}
+use Rattle.semantics.specs.Records.{Fits, Holds}
+use Rattle.semantics.specs.Syntax.{TreeForm}
+use Rattle.semantics.specs.Values.{Datum, null, value_order}
+use Rattle.semantics.specs.declared.function.ColumnFunction.{ColumnFunction}
+use Rattle.semantics.specs.declared.function.ColumnFunction.TheVariants as function
+use Rattle.semantics.specs.declared.kind.Kind.{Kind}
+use Rattle.query_resolve.specs.Functions.{indexed_functions}
+use Rattle.query_resolve.specs.declared.function.FilteredFunction.{FilteredFunction}
+use Rattle.part_groups.specs.Known.{AreDifferentOf, AreStatesFor, IsAscending, IsKeyFor, IsStateFor, IsSumOf}
+use Rattle.tables.proofs.Bags.{all-distinct, all-filter, all-filter_map, find-such}
+use Rattle.tables.proofs.Bound.{bound-functions}
+use Rattle.tables.proofs.Narrow.{narrow-from_fits}
+use Rattle.tables.specs.Functions.{filter_tests}
+use Rattle.tables_groups.proofs.Ascending.{in_order-sorted}
+use Rattle.tables_groups.proofs.Order.{value_total}
+use Rattle.tables_groups.proofs.Repeats.{distinct-is}
+use Rattle.tables_groups.specs.Functions.{aggregates_of, filter_at}
+use Rattle.tables_groups.specs.Rows.{IsNarrow}
+use Rattle.parts.specs.ReadingParts.{state_kind, state_kind_by, type_at}
+use Rattle.parts.proofs.Lists.{all-ordered, distinct-le, filter-le, length-ordered, weaker}
+
+-- ---- lists that are no longer
+
+cons-le : {X : Type 0} (o : Option X) (ys : List X) (n : ℕ) → length ys ≤ n → length (cons_option o ys) ≤ suc n
+cons-le None ys n h = omega (arith, h)
+cons-le (Some y) ys n h = omega (arith, h)
+
+kept-le : {X Y : Type 0} (f : X → Option Y) (xs : List X) → length (filter_map f xs) ≤ length xs
+kept-le f [] = omega arith
+kept-le f (x ∷ xs) = cons-le (f x) (filter_map f xs) (length xs) (kept-le f xs)
+
+-- ---- what holds of each thing
+
+-- what a filter keeps passes it
+all-passed : {X : Type 0} (p : X → Bool) (xs : List X) → AllByRecursion (λ x. p x ≡ true) (filter p xs)
+all-passed p [] = tt
+all-passed p (x ∷ xs) = elim (p x) as (λ b. p x ≡ b → AllByRecursion (λ y. p y ≡ true) (cond b (x ∷ filter p xs) (filter p xs))) [
+  | true ↦ λ e. (e, all-passed p xs)
+  | false ↦ λ e. all-passed p xs
+] refl
+
+some-such : {X : Type 0} (P : X → Type 0) (o : Option X) → IfSome o P → (x : X) → o ≡ Some x → P x
+some-such P None h x e = absurd cc
+some-such P (Some y) h x e = let same : y ≡ x = cc in subst P same h
+
+-- ---- values of a column
+
+held-null : (k : Kind) → Holds k null
+held-null k = tt
+
+held-at : (fields : List Field) (place : ℕ) (row : Row) → Fits fields row → Holds (type_at fields place) (value_at place row)
+held-at [] place [] fits = held-null (type_at [] place)
+held-at [] place (d ∷ row) fits = absurd fits
+held-at (f ∷ fields) place [] fits = absurd fits
+held-at (f ∷ fields) zero (d ∷ row) fits = fits.0
+held-at (f ∷ fields) (suc place) (d ∷ row) fits = held-at fields place row fits.1
+
+column-held : (fields : List Field) (place : ℕ) (rows : List Row) → AllByRecursion (Fits fields) rows → AllByRecursion (Holds (type_at fields place)) (map (value_at place) rows)
+column-held fields place [] fit = tt
+column-held fields place (row ∷ rows) fit = (held-at fields place row fit.0, column-held fields place rows fit.1)
+
+known : (d : Datum) → is_present d ≡ true → d ≢ null
+known d there none = true≢false (sym there ∙ ap is_present none)
+
+all-known : (ds : List Datum) → AllByRecursion (λ d. d ≢ null) (present ds)
+all-known ds = weaker known (present ds) (all-passed is_present ds)
+
+present-held : (k : Kind) (ds : List Datum) → AllByRecursion (Holds k) ds → AllByRecursion (Holds k) (present ds)
+present-held k ds all = all-filter (Holds k) is_present ds all
+
+-- ---- the least and the greatest value
+
+least-held : (k : Kind) (ds : List Datum) → AllByRecursion (Holds k) ds → Holds k (least ds)
+least-held k ds all = find-such (Holds k) (λ x. list_all (λ y. not (is_lt (value_order y x))) ds) ds null (held-null k) all
+
+greatest-held : (k : Kind) (ds : List Datum) → AllByRecursion (Holds k) ds → Holds k (greatest ds)
+greatest-held k ds all = find-such (Holds k) (λ x. list_all (λ y. not (is_gt (value_order y x))) ds) ds null (held-null k) all
+
+-- ---- sums
+
+-- a whole number that is neither below -2^63 nor above 2^63
+abbrev IsNarrowNumber : ℤ → Type 0
+IsNarrowNumber n = ((pos 0 -ℤ pos (2 ^ 63)) ≤ℤ n) × (n ≤ℤ pos (2 ^ 63))
+
+total-within : (ns : List ℤ) → AllByRecursion IsNarrowNumber ns → IsSumOf (length ns) (total ns)
+total-within [] all = (omega (arith, ints), omega (arith, ints))
+total-within (n ∷ ns) all =
+    let one = all.0 in
+    let more = total-within ns all.1 in
+    (omega (arith, ints, one, more), omega (arith, ints, one, more))
+
+held-narrow : (k : Kind) (d : Datum) → Holds k d → IsNarrow d
+held-narrow k d held = (narrow-from_fits (record { name = []; kind = k } ∷ []) (d ∷ []) (held, tt)).0
+
+numbers-narrow : (k : Kind) (ds : List Datum) → AllByRecursion (Holds k) ds → AllByRecursion IsNarrowNumber (numbers ds)
+numbers-narrow k ds all = all-filter_map IsNarrowNumber number_of ds (weaker (λ d held. some-such IsNarrowNumber (number_of d) (held-narrow k d held)) ds all)
+
+sum-held : (k : Kind) (ds : List Datum) → AllByRecursion (Holds k) ds → IsSumOf (length (numbers ds)) (total (numbers ds))
+sum-held k ds all = total-within (numbers ds) (numbers-narrow k ds all)
+
+-- ---- different values
+
+sorted-ascending : {X : Type 0} (order : X → X → Ordering) (xs : List X) → IsStrictlySortedBy order xs → IsAscending order xs
+unfolding IsStrictlySortedBy
+sorted-ascending order [] sorted = tt
+sorted-ascending order (x ∷ []) sorted = tt
+sorted-ascending order (x ∷ y ∷ more) sorted = (sorted.0.0, sorted-ascending order (y ∷ more) sorted.1)
+
+pub different-le : (ds : List Datum) → length (different_values ds) ≤ length ds
+different-le ds = let a = length-ordered value_order (distinct same_value ds) in let b = distinct-le same_value ds in omega (arith, a, b)
+
+all-different : (P : Datum → Type 0) (ds : List Datum) → AllByRecursion P ds → AllByRecursion P (different_values ds)
+all-different P ds all = all-ordered value_order P (distinct same_value ds) (all-distinct P same_value ds all)
+
+different-held : (k : Kind) (ds : List Datum) → AllByRecursion (Holds k) ds → AllByRecursion (λ d. d ≢ null) ds → AreDifferentOf k (different_values ds)
+different-held k ds held known = record {
+  held = all-different (Holds k) ds held;
+  known = all-different (λ d. d ≢ null) ds known;
+  ascending = sorted-ascending value_order (different_values ds) (in_order-sorted value_total (distinct same_value ds) (distinct-is same_value ds));
+}
+
+-- ---- states
+
+-- of records that fit, no more than the members
+module _ (fields : List Field) (members : ℕ) (rows : List Row) (few : length rows ≤ members) (fit : AllByRecursion (Fits fields) rows) where
+  pub values-few : (place : ℕ) → length (column_values place rows) ≤ members
+  values-few place = let a = filter-le is_present (map (value_at place) rows) in let b = length-map rows (value_at place) in omega (arith, a, b, few)
+
+  numbers-few : (place : ℕ) → length (column_numbers place rows) ≤ members
+  numbers-few place = let a = kept-le number_of (map (value_at place) rows) in let b = length-map rows (value_at place) in omega (arith, a, b, few)
+
+  values-held : (place : ℕ) → AllByRecursion (Holds (type_at fields place)) (column_values place rows)
+  values-held place = present-held (type_at fields place) (map (value_at place) rows) (column-held fields place rows fit)
+
+  pub summed-fits : (place : ℕ) → (length (column_numbers place rows) ≤ members) × IsSumOf (length (column_numbers place rows)) (total (column_numbers place rows))
+  summed-fits place = (numbers-few place, sum-held (type_at fields place) (map (value_at place) rows) (column-held fields place rows fit))
+
+  different-fits : (place : ℕ) → (length (different_values (column_values place rows)) ≤ members) × AreDifferentOf (type_at fields place) (different_values (column_values place rows))
+  different-fits place =
+      let a = different-le (column_values place rows) in
+      let b = values-few place in
+      (omega (arith, a, b), different-held (type_at fields place) (column_values place rows) (values-held place) (all-known (map (value_at place) rows)))
+
+  -- a state has the kind of a set function with a FILTER, of whatever index
+  over-fits : (index : ℕ) (f : ColumnFunction) → IsStateFor members (state_kind_by fields (Some index) f) (state_over f rows)
+  over-fits index function.CountRows = few
+  over-fits index (function.Count place) = values-few place
+  over-fits index (function.CountDistinct place) = different-fits place
+  over-fits index (function.Sum place) = summed-fits place
+  over-fits index (function.Min place) = least-held (type_at fields place) (column_values place rows) (values-held place)
+  over-fits index (function.Max place) = greatest-held (type_at fields place) (column_values place rows) (values-held place)
+  over-fits index (function.Avg place) = summed-fits place
+
+module _ (fields : List Field) (filters : List (Row → Bool)) (rows : List Row) (fit : AllByRecursion (Fits fields) rows) where
+  all-fits : (f : ColumnFunction) → IsStateFor (length rows) (state_kind_by fields (Some zero) f) (state_over f rows)
+  all-fits f = over-fits fields (length rows) rows (omega arith) fit zero f
+
+  kept-fits : (index : ℕ) (f : ColumnFunction) → IsStateFor (length rows) (state_kind_by fields (Some index) f) (state_over f (filter (filter_at filters index) rows))
+  kept-fits index f =
+      let keeps = filter_at filters index in
+      over-fits fields (length rows) (filter keeps rows) (filter-le keeps rows) (all-filter (Fits fields) keeps rows fit) index f
+
+  state-fits : (index : Option ℕ) (f : ColumnFunction) → IsStateFor (length rows) (state_kind_by fields index f) (state_by (option_map (filter_at filters) index) f rows)
+  state-fits None function.CountRows = tt
+  state-fits None (function.Count place) = all-fits (function.Count place)
+  state-fits None (function.CountDistinct place) = all-fits (function.CountDistinct place)
+  state-fits None (function.Sum place) = all-fits (function.Sum place)
+  state-fits None (function.Min place) = all-fits (function.Min place)
+  state-fits None (function.Max place) = all-fits (function.Max place)
+  state-fits None (function.Avg place) = all-fits (function.Avg place)
+  state-fits (Some index) f = kept-fits index f
+
+  all-states-fit : (functions : List FilteredFunction) → AreStatesFor (length rows) (map (state_kind fields) functions) (map (λ f. function_state f rows) (aggregates_of filters functions))
+  all-states-fit [] = tt
+  all-states-fit (f ∷ functions) = (state-fits f.filter f.function, all-states-fit functions)
+
+-- ---- the keys and the states of records
+
+key-fits : (fields : List Field) (set : List ℕ) (row : Row) → Fits fields row → IsKeyFor (map (type_at fields) set) (project set row)
+key-fits fields [] row fits = tt
+key-fits fields (place ∷ set) row fits = (held-at fields place row fits, key-fits fields set row fits)
+
+projected-fit : (fields : List Field) (set : List ℕ) (rows : List Row) → AllByRecursion (Fits fields) rows → AllByRecursion (IsKeyFor (map (type_at fields) set)) (map (project set) rows)
+projected-fit fields set [] fit = tt
+projected-fit fields set (row ∷ rows) fit = (key-fits fields set row fit.0, projected-fit fields set rows fit.1)
+
+-- the keys of records have values that their columns hold
+pub keys-fit : (fields : List Field) (set : List ℕ) (rows : List Row) → AllByRecursion (Fits fields) rows → AllByRecursion (IsKeyFor (map (type_at fields) set)) (keys set rows)
+keys-fit fields [] rows fit = (tt, tt)
+keys-fit fields (place ∷ set) rows fit =
+    all-distinct (IsKeyFor (map (type_at fields) (place ∷ set))) same_key (map (project (place ∷ set)) rows) (projected-fit fields (place ∷ set) rows fit)
+
+-- the states over records are those of a group of so many members
+pub states-fit : (fields : List Field) (q : TreeForm) (rows : List Row) → AllByRecursion (Fits fields) rows
+    → AreStatesFor (length rows) (map (state_kind fields) (indexed_functions fields q)) (map (λ f. function_state f rows) (aggregate_functions fields q))
+states-fit fields q rows fit =
+    subst (λ (fs : List AggregateFunction). AreStatesFor (length rows) (map (state_kind fields) (indexed_functions fields q)) (map (λ f. function_state f rows) fs)) (bound-functions fields q)
+    (all-states-fit fields (filter_tests fields q) rows fit (indexed_functions fields q))
