@@ -43,7 +43,7 @@ behind-behind ds es next rest s = let e : s.place + length ds + length es ≡ s.
 -- ---- what lines of values are read as
 
 -- Where the next lines have these values, the reading gives this thing, and the lines behind them are left.
-abbrev Reads : {A : Type 0} → (Stream → Result (A × Stream) GroupFault) → List Datum → A → Type 0
+abbrev pub Reads : {A : Type 0} → (Stream → Result (A × Stream) GroupFault) → List Datum → A → Type 0
 Reads one ds a = (s : Stream) (ls rest : List (List ℕ)) → HaveValues ls ds → s.left ≡ ls ++ rest → one s ≡ Ok (a, behind ds rest s)
 
 reads-nothing : {A : Type 0} (a : A) → Reads (λ s. Ok (a, s)) [] a
@@ -135,7 +135,7 @@ bounded n z h = le-leb (unsigned_abs z) (n * 2 ^ 63) (within-bounds (n * 2 ^ 63)
 
 -- ---- values one by one
 
-value-read : (d : Datum) → Reads value_at (d ∷ []) d
+pub value-read : (d : Datum) → Reads value_at (d ∷ []) d
 unfolding value_at
 value-read d s [] rest h stands = absurd h
 value-read d s (l ∷ []) rest h stands =
@@ -152,11 +152,11 @@ number-read : (z : ℤ) → Reads number_at (whole z ∷ []) z
 unfolding number_at
 number-read z = and_done value_at (whole z ∷ []) (whole z) _ z (value-read (whole z)) (λ s. refl)
 
-count-read : (n : ℕ) → n < 2 ^ 64 → Reads count_at (count_values n) n
+pub count-read : (n : ℕ) → n < 2 ^ 64 → Reads count_at (count_values n) n
 unfolding count_at
 count-read n small = and_done number_at (count_values n) (pos n) _ n (number-read (pos n)) (λ s. ap (λ b. cond b (Ok n) (Err (fault_at UnexpectedValue s)) >>= λ m. Ok (m, s)) (lt-ltb n (2 ^ 64) small))
 
-within-read : (most n : ℕ) → n < 2 ^ 64 → n ≤ most → Reads (count_within most) (count_values n) n
+pub within-read : (most n : ℕ) → n < 2 ^ 64 → n ≤ most → Reads (count_within most) (count_values n) n
 unfolding count_within
 within-read most n small few = and_done count_at (count_values n) n _ n (count-read n small) (λ s. if_true (nat_le n most) OutOfRange s _ (le-leb n most few))
 

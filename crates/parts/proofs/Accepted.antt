@@ -1,6 +1,6 @@
 -- The lines of a part whose contents fit are read, to the last one.
-use Rattle.std.proofs.Common.{◌≡◌, ◌+◌, ◌-◌, ◌^◌, ◌<◌, ◌≤◌, ℕ, suc, pos, Bool, true, cond, List, [], ◌∷◌, ◌++◌, length, take, drop, Some, None, Result, Ok, Err, refl, sym, ap, subst, ◌∙◌, append_assoc, length-append, arith}
-use Rattle.std.proofs.lemmas.Bool.{eq-eqb, eqb-true, le-leb, lt-ltb}
+use Rattle.std.proofs.Common.{◌≡◌, ◌+◌, ◌-◌, ◌^◌, ◌<◌, ◌≤◌, ℕ, suc, Bool, true, cond, List, [], ◌∷◌, ◌++◌, length, take, drop, Some, None, Result, Ok, Err, refl, sym, ap, subst, ◌∙◌, append_assoc, length-append, arith}
+use Rattle.std.proofs.lemmas.Bool.{eq-eqb, eqb-true, lt-ltb}
 use Rattle.std.proofs.lemmas.List.Concat.{flat_map-cons}
 use Rattle.std.proofs.lemmas.Slice.Eq.{slice_eq-Decides}
 use Rattle.std.specs.Prelude.{⊤, nat_lt}
@@ -15,14 +15,13 @@ use Rattle.semantics.specs.Syntax.{TreeForm}
 use Rattle.semantics.specs.Texts.{fault_text}
 use Rattle.semantics.specs.Values.{Datum, text}
 use Rattle.semantics.specs.declared.line_fault.LineFault.{LineFault}
-use Rattle.part_groups.proofs.Read.{groups-read}
+use Rattle.part_groups.proofs.Read as reading
+use Rattle.part_groups.proofs.Read.{count-read, groups-read, value-read, within-read}
 use Rattle.part_groups.proofs.ReadAs.{lines-first}
 use Rattle.part_groups.specs.Groups.{ShapeForm}
 use Rattle.part_groups.specs.Known.{AreGroupsFor, HaveValues}
-use Rattle.part_groups.specs.Reading as groups
-use Rattle.part_groups.specs.Reading.{Stream, behind, count_at, count_within, first_line, groups_at, number_at, reading_of, value_at, value_or_fault}
+use Rattle.part_groups.specs.Reading.{Stream, behind, count_at, count_within, groups_at, reading_of, value_at}
 use Rattle.part_groups.specs.declared.fault.GroupFault.{GroupFault}
-use Rattle.part_groups.specs.declared.fault.GroupFaultKind.TheVariants.{OutOfRange, UnexpectedValue}
 use Rattle.parts.specs.Faults.{Fault, FaultKind, not_a_part, other_columns, other_query, out_of_order, out_of_range, too_many_lines, wrong_checksum}
 use Rattle.parts.specs.ReadingParts.{◌>>=◌, all_refused_at, can_have, checksum_at, contents_at, fault_at, fault_named, group_count_at, header_at, header_of, line_fault_in, lines_at, mark_at, of_part, other_at, other_text, part_at, passed, refused_at, refused_line_at, said_at, shape_under, text_at, with_fault}
 
@@ -46,40 +45,9 @@ pub record AreContentsFor (fields : List Field) (q : TreeForm) (before : ℕ) (c
   pub groups_few : length c.groups < 2 ^ 64
   pub groups : AreGroupsFor (shape_under fields q) (record { last = None; left = c.lines - length c.refused }) c.groups
 
--- ---- values of groups
-
--- the same of what is read as part of groups
-abbrev GroupReads : {A : Type 0} → (Stream → Result (A × Stream) GroupFault) → List Datum → A → Type 0
-GroupReads one ds a = (s : Stream) (ls rest : List (List ℕ)) → HaveValues ls ds → s.left ≡ ls ++ rest → one s ≡ Ok (a, behind ds rest s)
-
-group_done : {A B : Type 0} (one : Stream → Result (A × Stream) GroupFault) (ds : List Datum) (a : A) (f : A × Stream → Result (B × Stream) GroupFault) (b : B)
-    → GroupReads one ds a → ((s : Stream) → f (a, s) ≡ Ok (b, s)) → GroupReads (λ s. groups.◌>>=◌ (one s) f) ds b
-group_done one ds a f b h k s ls rest has stands = ap (λ r. groups.◌>>=◌ r f) (h s ls rest has stands) ∙ k (behind ds rest s)
-
-value-read : (d : Datum) → GroupReads value_at (d ∷ []) d
-unfolding value_at
-value-read d s [] rest h stands = absurd h
-value-read d s (l ∷ []) rest h stands =
-    let next : Stream = record { left = rest; place = s.place + 1 } in
-    ap (λ ls. groups.◌>>=◌ (first_line ls s.place) (λ line. groups.◌>>=◌ (value_or_fault (reading_of line.0) line.1) (λ e. Ok (e, line.1)))) stands
-    ∙ ap (λ o. groups.◌>>=◌ (value_or_fault o next) (λ e. Ok (e, next))) h.0
-value-read d s (l ∷ m ∷ ls) rest h stands = absurd h.1
-
-count-read : (n : ℕ) → n < 2 ^ 64 → GroupReads count_at (number n ∷ []) n
-unfolding count_at number_at
-count-read n small =
-    group_done number_at (number n ∷ []) (pos n) _ n (group_done value_at (number n ∷ []) (number n) _ (pos n) (value-read (number n)) (λ s. refl))
-    (λ s. ap (λ b. groups.◌>>=◌ (cond b (Ok n) (Err (groups.fault_at UnexpectedValue s))) (λ m. Ok (m, s))) (lt-ltb n (2 ^ 64) small))
-
-within-read : (most n : ℕ) → n < 2 ^ 64 → n ≤ most → GroupReads (count_within most) (number n ∷ []) n
-unfolding count_within
-within-read most n small few =
-    group_done count_at (number n ∷ []) n _ n (count-read n small)
-    (λ s. ap (λ b. groups.◌>>=◌ (cond b (Ok tt) (Err (groups.fault_at OutOfRange s))) (λ u. Ok (n, s))) (le-leb n most few))
-
 -- ---- one reading and then another one
 
-of_part-read : {A : Type 0} (one : Stream → Result (A × Stream) GroupFault) (ds : List Datum) (a : A) → GroupReads one ds a → Reads (λ s. of_part (one s)) ds a
+of_part-read : {A : Type 0} (one : Stream → Result (A × Stream) GroupFault) (ds : List Datum) (a : A) → reading.Reads one ds a → Reads (λ s. of_part (one s)) ds a
 of_part-read one ds a h s ls rest has stands = ap of_part (h s ls rest has stands)
 
 abbrev at : List (List ℕ) → ℕ → Stream
