@@ -192,7 +192,7 @@ is-join r s limit fields q given whole oo on eo en same run within stands = reco
   is_run = λ inputs are.
       subst (λ (o : Option (Result Done RunFault)). IfSome o (λ answer. IsRun answer limit fields q (Some (concatenated inputs)) oo on eo en)) (sym same)
       (run limit (Some (concatenated inputs)) within (stands-itself fields q whole (concatenated inputs) (stands inputs are)));
-  takes = λ inputs are can. subst (λ (o : Option (Result Done RunFault)). IsSome o) (sym same) tt;
+  takes = λ inputs are can. subst (λ (o : Option (Result Done RunFault)). IsSome o) (sym same) refl;
   is_some_run = subst (λ (o : Option (Result Done RunFault)). IfSome o (λ answer. IsRun answer limit fields q None oo on eo en)) (sym same) (run limit None within tt);
   keeps = λ none. let wrong = subst (λ (o : Option (Result Done RunFault)). IsNone o) same none in absurd cc;
 }
@@ -207,7 +207,7 @@ is-partial-join r s limit fields q given whole oo on same run within stands = re
   is_run = λ inputs are.
       subst (λ (o : Option (Result Done RunFault)). IfSome o (λ answer. IsPartialRun answer limit fields q (Some (concatenated inputs)) oo on)) (sym same)
       (run limit (Some (concatenated inputs)) within (stands-itself fields q whole (concatenated inputs) (stands inputs are)));
-  takes = λ inputs are can. subst (λ (o : Option (Result Done RunFault)). IsSome o) (sym same) tt;
+  takes = λ inputs are can. subst (λ (o : Option (Result Done RunFault)). IsSome o) (sym same) refl;
   is_some_run = subst (λ (o : Option (Result Done RunFault)). IfSome o (λ answer. IsPartialRun answer limit fields q None oo on)) (sym same) (run limit None within tt);
   keeps = λ none. let wrong = subst (λ (o : Option (Result Done RunFault)). IsNone o) same none in absurd cc;
 }
@@ -215,10 +215,10 @@ is-partial-join r s limit fields q given whole oo on same run within stands = re
 -- joins that fail before anything is written
 stopped : (fault : JoinFault) (limit : Option ℕ) (fields : List Field) (q : TreeForm) (given out err : Option (List ℕ)) → StopsJoin fault limit fields q given
     → IsJoin (Err fault) limit fields q given out out err err
-stopped (Parts fault) limit fields q given out err stops = record { is_run = λ inputs are. tt; takes = stops; is_some_run = tt; keeps = λ _. (Keeps-refl out, Keeps-refl err) }
+stopped (Parts fault) limit fields q given out err stops = record { is_run = λ inputs are. tt; takes = λ inputs are can. absurd (stops inputs are can); is_some_run = tt; keeps = λ _. (Keeps-refl out, Keeps-refl err) }
 stopped (Run fault) limit fields q given out err stops = record {
   is_run = λ inputs are. run-stopped (Err fault) fault limit fields q (Some (concatenated inputs)) out err refl (stops.1 inputs are);
-  takes = λ inputs are can. tt;
+  takes = λ inputs are can. refl;
   is_some_run = run-stopped (Err fault) fault limit fields q None out err refl stops.0;
   keeps = λ none. let wrong = none in absurd cc;
 }
@@ -230,10 +230,10 @@ join-stopped (Err f) fault limit fields q given out err is stops = stopped f lim
 
 partial-stopped : (fault : JoinFault) (limit : Option ℕ) (fields : List Field) (q : TreeForm) (given out : Option (List ℕ)) → StopsJoin fault limit fields q given
     → IsPartialJoin (Err fault) limit fields q given out out
-partial-stopped (Parts fault) limit fields q given out stops = record { is_run = λ inputs are. tt; takes = stops; is_some_run = tt; keeps = λ _. Keeps-refl out }
+partial-stopped (Parts fault) limit fields q given out stops = record { is_run = λ inputs are. tt; takes = λ inputs are can. absurd (stops inputs are can); is_some_run = tt; keeps = λ _. Keeps-refl out }
 partial-stopped (Run fault) limit fields q given out stops = record {
   is_run = λ inputs are. part-stopped (Err fault) fault limit fields q (Some (concatenated inputs)) out refl (stops.1 inputs are);
-  takes = λ inputs are can. tt;
+  takes = λ inputs are can. refl;
   is_some_run = part-stopped (Err fault) fault limit fields q None out refl stops.0;
   keeps = λ none. let wrong = none in absurd cc;
 }
