@@ -35,7 +35,8 @@ IsOver limit count fault = ⊥
 -- Before anything is written a join fails by a fault of the parts, where no parts that can be joined were given, or
 -- as a run may over the inputs whose parts were given, one behind the other, and over some input.
 abbrev pub StopsJoin : JoinFault → Option ℕ → List Field → TreeForm → Option (List ℕ) → Type 0
-StopsJoin (Parts fault) limit fields q given = (inputs : List (List ℕ)) → ArePartsOf fields q inputs given → ¬ CanBeJoined fields q inputs
+StopsJoin (Parts fault) limit fields q given =
+    (inputs : List (List ℕ)) → ArePartsOf fields q inputs given → ¬ CanBeJoined fields q inputs
 StopsJoin (Run fault) limit fields q given =
     StopsRun fault limit fields None
     × ((inputs : List (List ℕ)) → ArePartsOf fields q inputs given → StopsRun fault limit fields (Some (concatenated inputs)))

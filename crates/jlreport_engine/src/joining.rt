@@ -26,17 +26,18 @@ use tables::{Executor, Parallel, Partial};
 /// were read.
 ///
 /// Example: with the plan of `SELECT SUM(q) AS s FROM lines` under `q:int`, and as the input the part of the one line
-/// `{"q":5}` and behind it that of `{"q":2}`, `run_join(&rt, alloc, &plan, options, input, &mut out, &mut err)`, where
-/// it is done, answers `Done { lines: 2, refused: 0 }`; the lines `s` and `7` were written to `out`, and nothing to `err`.
+/// `{"q":5}` and behind it that of `{"q":2}`, `run_join(&rt, alloc, &plan, options, input, &mut out, &mut err)`,
+/// where it is done, answers `Done { lines: 2, refused: 0 }`; the lines `s` and `7` were written to `out`, and
+/// nothing to `err`.
 ///
 /// # Errors
 ///
 /// `Parts` where what was read is no parts of the columns and the query, one behind the other, with the first fault:
-/// then nothing was written. Parts of inputs may be refused so where the inputs have 2^63 lines or more together, or where
-/// the columns or the canonical query have more than 1,000,000 bytes as strings of JSON, and are not refused otherwise.
-/// `Run` where the join fails as a run does: by `Reading`, `OutOfMemory` or `TooManyRefused`, and nothing was written; by
-/// `WritingReport`, and a beginning of the report was written, and nothing of the list; or by `WritingRefused`, and the
-/// report was written, and a beginning of the list. It never answers `ThreadNotStarted`.
+/// then nothing was written. Of inputs it refuses the parts only where there is none, where the inputs have 2^63 lines
+/// or more together, or where the columns or the canonical query have more than 1,000,000 bytes as strings of JSON.
+/// `Run` where the join fails as a run does: by `Reading`, `OutOfMemory` or `TooManyRefused`, and nothing was written;
+/// by `WritingReport`, and a beginning of the report was written, and nothing of the list; or by `WritingRefused`, and
+/// the report was written, and a beginning of the list. It never answers `ThreadNotStarted`.
 pub fn run_join<R: Read + Drop, O: Write, E: Write, H: Threads + Wait + Sync>(
     rt: &H,
     alloc: Global,
@@ -73,8 +74,8 @@ pub fn run_join<R: Read + Drop, O: Write, E: Write, H: Threads + Wait + Sync>(
 /// # Errors
 ///
 /// `Parts` where what was read is no parts of the columns and the query, one behind the other, with the first fault:
-/// then nothing was written. It refuses parts of inputs only where `run_join` may. `Run` where the join fails as a run to
-/// a part does: by `Reading`, `OutOfMemory` or `TooManyRefused`, and nothing was written; or by `WritingPart`, and a
+/// then nothing was written. It refuses parts of inputs only where `run_join` may. `Run` where the join fails as a run
+/// to a part does: by `Reading`, `OutOfMemory` or `TooManyRefused`, and nothing was written; or by `WritingPart`, and a
 /// beginning of the part was written. It never answers `ThreadNotStarted`.
 pub fn join_partial<R: Read + Drop, O: Write, H: Threads + Wait + Sync>(
     rt: &H,

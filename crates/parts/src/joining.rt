@@ -113,9 +113,10 @@ fn join_rest<R: Read + Drop, E: Executor>(
 /// The first fault of the parts, from the front: `NoPart` where there is no line; `NotAPart` or `OtherVersion` where a part
 /// should begin and another line stands; `OtherColumns` and `OtherQuery` where a part is of others than the plan; and where
 /// a line is not what should stand there, `NotAValue`, `UnexpectedValue`, `OutOfOrder`, `OutOfRange`, `EndsTooEarly`,
-/// `WrongChecksum` or `TooManyLines`. The parts of inputs have none of these, where the inputs have fewer than 2^63 lines
-/// together, and the columns and the canonical query at most 1,000,000 bytes each, as strings of JSON. `Reading` where a
-/// read fails or the input has 2^63 bytes or more, `OutOfMemory` where memory runs out.
+/// `WrongChecksum` or `TooManyLines`. The parts of inputs, of which there is one at least, have none of these where the
+/// inputs have fewer than 2^63 lines together, and the columns and the canonical query at most 1,000,000 bytes each, as
+/// strings of JSON. `Reading` where a read fails or the input has 2^63 bytes or more, `OutOfMemory` where memory runs
+/// out.
 pub fn read_parts<R: Read + Drop, E: Executor>(
     alloc: Global,
     plan: &Plan,

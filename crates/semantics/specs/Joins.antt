@@ -65,7 +65,8 @@ run_answer (Err (Parts fault)) = None
 pub record IsJoin (result : Result Done JoinFault) (limit : Option ℕ) (fields : List Field) (q : TreeForm) (given out_old out_new err_old err_new : Option (List ℕ)) : Type 0 where
   pub is_run : (inputs : List (List ℕ)) → ArePartsOf fields q inputs given
       → IfSome (run_answer result) (λ answer. IsRun answer limit fields q (Some (concatenated inputs)) out_old out_new err_old err_new)
-  pub takes : (inputs : List (List ℕ)) → ArePartsOf fields q inputs given → CanBeJoined fields q inputs → IsSome (run_answer result)
+  pub takes : (inputs : List (List ℕ)) → ArePartsOf fields q inputs given → CanBeJoined fields q inputs
+      → IsSome (run_answer result)
   pub is_some_run : IfSome (run_answer result) (λ answer. IsRun answer limit fields q None out_old out_new err_old err_new)
   pub keeps : IsNone (run_answer result) → Keeps out_old out_new × Keeps err_old err_new
 
@@ -73,6 +74,7 @@ pub record IsJoin (result : Result Done JoinFault) (limit : Option ℕ) (fields 
 pub record IsPartialJoin (result : Result Done JoinFault) (limit : Option ℕ) (fields : List Field) (q : TreeForm) (given out_old out_new : Option (List ℕ)) : Type 0 where
   pub is_run : (inputs : List (List ℕ)) → ArePartsOf fields q inputs given
       → IfSome (run_answer result) (λ answer. IsPartialRun answer limit fields q (Some (concatenated inputs)) out_old out_new)
-  pub takes : (inputs : List (List ℕ)) → ArePartsOf fields q inputs given → CanBeJoined fields q inputs → IsSome (run_answer result)
+  pub takes : (inputs : List (List ℕ)) → ArePartsOf fields q inputs given → CanBeJoined fields q inputs
+      → IsSome (run_answer result)
   pub is_some_run : IfSome (run_answer result) (λ answer. IsPartialRun answer limit fields q None out_old out_new)
   pub keeps : IsNone (run_answer result) → Keeps out_old out_new
