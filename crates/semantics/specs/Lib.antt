@@ -30,4 +30,5 @@ pub mod Parts
 pub mod Joins
 pub mod CommandLine
 pub mod Explanation
+pub mod Serving
 pub mod Inside

@@ -7,6 +7,7 @@
 
 mod aggregate;
 mod comparison;
+mod ending;
 mod function;
 mod join_fault;
 mod kind;
@@ -24,6 +25,7 @@ mod words_fault;
 
 pub use aggregate::Aggregate;
 pub use comparison::Op;
+pub use ending::Ending;
 pub use function::ColumnFunction;
 pub use join_fault::JoinFault;
 pub use kind::Kind;

@@ -13,13 +13,14 @@ pub enum PartsFaultKind {
     /// A part should begin, and the line is not the mark of one.
     #[error("not a part")]
     NotAPart,
-    /// The line is the mark of a part of this version, a whole number.
+    /// The line is the mark of a part of this version, a whole number as it is written, shown in the same way.
     #[error("a part of version {0}")]
     OtherVersion(String),
-    /// The part is of other columns: those that the line names, as it stands, in quotes.
+    /// The part is of other columns: those that the line names, in quotes. Characters that are not shown, or that turn the
+    /// direction of writing, are escaped, and of more than 200 characters there are the first 200 and `..`.
     #[error("other columns: {0}")]
     OtherColumns(String),
-    /// The part is of another query: that of the line, as it stands, in quotes.
+    /// The part is of another query: that of the line, in quotes, shown in the same way.
     #[error("another query: {0}")]
     OtherQuery(String),
     /// The line is the text of no value, or has more than 1,048,576 bytes.
@@ -33,7 +34,7 @@ pub enum PartsFaultKind {
     OutOfOrder,
     /// There are more refused lines than lines, or one behind the last line; or more records than good lines, or more of them
     /// counted or added than there are; or so many whole numbers of 64 bits have no such sum; or without GROUP BY there is not
-    /// exactly one group.
+    /// exactly one group, or with it a group without a record.
     #[error("out of range")]
     OutOfRange,
     /// The lines end before the part does.

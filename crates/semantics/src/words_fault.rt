@@ -10,14 +10,17 @@ use std::convert::From;
 ///
 /// Example: `--workers 65` among words that are good otherwise is `Range`; `--piece x` among them
 /// is `Clap`.
-#[derive(Debug, Drop)]
+#[derive(Debug, Drop, thiserror::Error)]
 pub enum WordsFault {
     /// What `clap` answers in place of settings. Its kind says which it is: a refusal, help,
     /// the version, or want of memory.
+    #[error("{0}")]
     Clap(Error),
     /// The number of workers or the size of a piece is none that `Options::new` takes.
+    #[error("a number is out of range")]
     Range,
     /// A word is not UTF-8. Only the program itself meets it, before the words are read.
+    #[error("a word is not UTF-8")]
     NotUtf8,
 }
 
