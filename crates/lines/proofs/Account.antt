@@ -1,7 +1,8 @@
 -- What is read in several reads.
-use Rattle.std.proofs.Common.{◌≡◌, ◌≤◌, ◌+◌, ℕ, List, [], ◌++◌, length, take, drop, Option, None, Some, Result, Ok, IsErr, sym, ◌∙◌, arith, length-append, length-take, length-drop}
+use Rattle.std.proofs.Common.{◌≡◌, ◌≤◌, ◌+◌, ℕ, List, [], ◌++◌, length, take, drop, Option, None, Some, Result, Ok, Err, IsErr, IsOk, refl, sym, ◌∙◌, arith, length-append, length-take, length-drop}
 use Rattle.std.proofs.KnownBytes.{Consumes-nil, Consumes-trans}
 use Rattle.std.specs.Io.KnownBytes.{Consumes, Keeps}
+use Rattle.std.specs.Prelude.{IsErrAnd}
 use Rattle.lines.specs.declared.fault.ReadFault.{ReadFault}
 use Rattle.lines.specs.declared.input.Input.{Input}
 use Rattle.lines.specs.Input.{HasAccount}
@@ -33,11 +34,17 @@ HasRead-trans a b c k m n p q = record {
   count = omega (arith, p.count, q.count, length-append p.bytes q.bytes);
 }
 
+-- what is a fault is no success
+pub not-ok : {T E A : Type 0} (P : E → Type 0) (r : Result T E) → IsErrAnd r P → IsOk r → A
+not-ok P (Ok x) is ok = absurd is
+not-ok P (Err e) is ok = let wrong = ok in absurd cc
+
 -- a call behind one that succeeded
-pub HasAccount-trans : {R T U V : Type 0} (remaining : R → Option (List ℕ)) (a b c : Input R) (x : T) (y : Result U ReadFault) (z : Result V ReadFault) → (IsErr z → IsErr y)
+pub HasAccount-trans : {R T U V : Type 0} (remaining : R → Option (List ℕ)) (a b c : Input R) (x : T) (y : Result U ReadFault) (z : Result V ReadFault) → (IsErr z → IsErr y) → (IsOk z → IsOk y)
     → HasAccount remaining a (Ok x) b → HasAccount remaining b y c → HasAccount remaining a z c
-HasAccount-trans remaining a b c x y z failed p q = record {
+HasAccount-trans remaining a b c x y z failed well p q = record {
   size = q.size ∙ p.size;
   read = HasRead-trans (remaining a.source.reader) (remaining b.source.reader) (remaining c.source.reader) a.source.taken b.source.taken c.source.taken p.read q.read;
   cause = λ h. q.cause (failed h);
+  told = λ h. q.told (well h) ∙ p.told refl;
 }

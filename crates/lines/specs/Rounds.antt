@@ -1,5 +1,5 @@
 -- What contracts see of an input that is read in rounds.
-use Rattle.std.specs.Prelude.{◌≡◌, ◌⊎◌, ◌↔◌, ℕ, ◌+◌, ◌^◌, ◌<◌, ◌≤◌, Bool, true, false, List, [], length, Option, Result, Ok, IsErr, option_map}
+use Rattle.std.specs.Prelude.{◌≡◌, ◌⊎◌, ◌↔◌, ℕ, ◌+◌, ◌^◌, ◌<◌, ◌≤◌, Bool, true, false, List, [], length, Option, Result, Ok, IsErr, IsOk, option_map}
 use Rattle.std.specs.Io.KnownBytes.{Consumes, IsAtEnd, Keeps}
 use Rattle.lines.specs.declared.fault.ReadFault.{ReadFault}
 use Rattle.lines.specs.Clip.{clip_lines}
@@ -67,12 +67,14 @@ pub record HasRead (old new : Option (List ℕ)) (taken counted : ℕ) : Type 0 
 abbrev pub HasCause : (erred : Bool) (taken : ℕ) → Type 0
 HasCause erred taken = (erred ≡ true) ⊎ (2 ^ 63 ≤ taken)
 
--- what a call does that may give a round
+-- what a call does that may give a round. A fault is told where a read is recorded to have answered an error, and only
+-- there or where 2^63 bytes were read
 pub record HasMoved {R : Type 0} (old : RoundsState R) (found : Result Bool ReadFault) (new : RoundsState R) : Type 0 where
   pub round : found ≡ Ok true → HasGiven old new
   pub none : found ≡ Ok false → HasNothing old new
   pub fault : IsErr found ↔ (new.failed ≡ true)
   pub cause : IsErr found → HasCause new.erred new.taken
+  pub told : IsOk found → new.erred ≡ false
   pub lost : IsErr found → new.round ≡ []
   pub read : HasRead old.unread new.unread old.taken new.taken
   pub failed : old.failed ≡ true → IsErr found

@@ -1,5 +1,5 @@
 //! A reader, and the account of what it answered.
-ghost use Rattle.std.specs.Prelude.{◌≡◌, ◌<◌, ◌^◌, false, IsErr, IfOk, length, take};
+ghost use Rattle.std.specs.Prelude.{◌≡◌, ◌<◌, ◌^◌, false, IsErr, IsOk, IfOk, length, take};
 ghost use Rattle.lines.specs.Input.{HasGot};
 ghost use Rattle.lines.specs.Rounds.{HasCause, HasRead};
 
@@ -47,6 +47,7 @@ impl<R: Read + Drop> Source<R> {
         ensures read { HasRead (R.remaining self.old.reader) (R.remaining self.new.reader)
             self.old.taken self.new.taken }
         ensures cause { IsErr result → HasCause self.new.erred self.new.taken }
+        ensures told { IsOk result → self.new.erred ≡ self.old.erred }
     {
         match self.reader.read(&mut buffer[at..]) {
             Ok(count) => {

@@ -11,3 +11,4 @@ pub mod Counts
 pub mod RollupCube
 pub mod CrossedLaw
 pub mod AtomFunctions
+pub mod Shown

@@ -3,3 +3,4 @@ pub mod Inside
 pub mod Functions
 pub mod Planning
 pub mod Resolution
+pub mod Shown

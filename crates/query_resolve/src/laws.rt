@@ -2,11 +2,16 @@
 
 ghost use Rattle.std.specs.Prelude.{◌≡◌, ℕ, Bool, List, true, Decides};
 ghost use Rattle.semantics.specs.Columns.{Field};
-ghost use Rattle.semantics.specs.Syntax.{TreeForm, PredicateForm};
+ghost use Rattle.semantics.specs.Syntax.{FunctionForm, TreeForm, PredicateForm, function};
 ghost use Rattle.semantics.specs.Names.{distinct, PlannedFunction};
 ghost use Rattle.semantics.specs.Sets.{cross_product, cube_sets, expanded_sets, rollup_sets, sets_of};
 ghost use Rattle.semantics.specs.Inside.Same.{same_planned, same_predicate};
 ghost use Rattle.query_resolve.specs.Laws.{AreDistinct, HaveSameColumns, IsCrossProduct, IsCube, IsRollup};
+ghost use Rattle.query_resolve.specs.Shown.{function_value, values_of_functions};
+ghost use Rattle.semantics.specs.Groups.{Key, Row};
+ghost use Rattle.semantics.specs.Rows.{expression_shown};
+ghost use Rattle.semantics.specs.SetFunctions.{set_functions};
+ghost use Rattle.std.specs.List.{Contains};
 
 /// A law: ROLLUP stands for the sets of its first n units, of its first n-1, and so on to the empty set,
 /// ISO/IEC 9075-2 `<rollup list>`.
@@ -51,4 +56,13 @@ pub fn same_predicate_law()
 /// A law: two set functions are the same exactly where the function, DISTINCT, the column and the filter are equal.
 pub fn same_function_law()
     ensures { (f g : PlannedFunction) → Decides (same_planned f g) (f ≡ g) }
+{}
+
+/// A law: what a row of a group shows for a set function of the query is the value of this function over the members of
+/// the group. So nobody has to believe in which order the different set functions stand.
+pub fn shown_law()
+    ensures { (fields : List Field) (t : TreeForm) (set : List ℕ) (key : Key) (rows : List Row)
+        (f : FunctionForm) → Contains (set_functions t) f
+        → expression_shown fields t set key (values_of_functions fields t rows) (function f)
+        ≡ function_value fields rows f }
 {}

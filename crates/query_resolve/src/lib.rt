@@ -22,7 +22,7 @@ pub use function::{FilteredFunction, column_function};
 pub use grouping::grouping_places;
 pub use laws::{
     cross_product_law, cube_law, distinct_law, kept_law, rollup_law, same_function_law,
-    same_predicate_law,
+    same_predicate_law, shown_law,
 };
 pub use planning::{Planned, filters, indexed_functions, planned_functions, planned_place};
 pub use semantics::ColumnFunction;

@@ -1,6 +1,6 @@
 use Rattle.std.proofs.Common.{◌≡◌, ◌<◌, ◌+◌, ℕ, min, rules, arith}
 use Rattle.lines.specs.Clip.{clipped_len}
-use Rattle.lines.proofs.Account.{HasAccount-trans}
+use Rattle.lines.proofs.Account.{HasAccount-trans, not-ok}
 use Rattle.lines.proofs.Leaving.{GoesOn-trans}
 use Rattle.lines.proofs.input.Input.fill_for.Goals as goal
 
@@ -16,7 +16,7 @@ loop-ended-preserved g c =
     let rest = g.R.Read.remaining in
     let filled = c.in_ok-ended-2.ensures in
     record {
-      account = HasAccount-trans rest first was.self next was.near _ _ (λ h. search rules) was.invariant.account filled.account;
+      account = HasAccount-trans rest first was.self next was.near _ _ (λ h. search rules) (λ h. search rules) was.invariant.account filled.account;
       goes_on = GoesOn-trans rest first was.self next was.invariant.goes_on filled.goes_on;
       near = filled.near;
       within = omega (arith, c.min-near-in-loop-ended.ensures);
@@ -26,4 +26,4 @@ loop-ended-preserved g c =
 -- where the second fill fails, bytes were read by both
 pub returns-in_err-ended-2-clause-account : goal.returns-in_err-ended-2-clause-account
 returns-in_err-ended-2-clause-account g c =
-    HasAccount-trans g.R.Read.remaining c.args.self.now c.loop-ended.self c.fill-in-loop-ended.new.self c.loop-ended.near _ _ (λ _. search rules) c.loop-ended.invariant.account c.in_err-ended-2.ensures.account
+    HasAccount-trans g.R.Read.remaining c.args.self.now c.loop-ended.self c.fill-in-loop-ended.new.self c.loop-ended.near _ _ (λ _. search rules) (not-ok _ _ c.from_residual-in_err-ended-2.ensures.1) c.loop-ended.invariant.account c.in_err-ended-2.ensures.account
