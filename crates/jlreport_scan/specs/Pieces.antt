@@ -9,7 +9,7 @@ use Rattle.lines.specs.Clip.{clip_lines}
 use Rattle.pool.specs.declared.laws.Outcome.{Outcome}
 use Rattle.pool.specs.declared.laws.Outcome.TheVariants.{Whole, Over}
 use Rattle.pool.specs.Holding.{Holding}
-use Rattle.pool.specs.Settled.{AreAll, HaveEachOnce, pieces_of}
+use Rattle.pool.specs.Settled.{AreAll, AreRun, HaveEachOnce, pieces_of}
 use Rattle.tables.specs.Denotations.{indexed_pieces}
 use Rattle.tables.specs.Pieces.{IsCutInto}
 use Rattle.jlreport_cli.specs.declared.options.Options.{Options}
@@ -26,10 +26,12 @@ abbrev pub IsUnder : ℕ → ℕ → Outcome Partial → Type 0
 IsUnder count limit (Whole partial) = count ≤ limit
 IsUnder count limit Over = limit < count
 
--- a round is cut into these pieces, which were dealt to these hands, all hands of one deal to so many workers, and each piece is in the list of one of them, once
+-- a round is cut into these pieces, which were dealt to these hands, all hands of one deal to so many workers; one schedule
+-- of that deal gave each hand what it has, and each piece is in the list of one of them, once
 pub record IsTaken (workers : ℕ) (round : List ℕ) (pieces : List Piece) (hands : List Holding) : Type 0 where
   pub cut : IsCutInto round (indexed_pieces round pieces)
   pub deal : AreAll hands × (length hands ≡ workers) × (pieces_of hands ≡ length pieces)
+  pub run : AreRun hands
   pub once : HaveEachOnce hands
 
 -- a result stands for whatever another one stands for, where that is whole lines, with the rest behind it

@@ -1,5 +1,5 @@
 -- What is known of the hands once their workers came back.
-use Rattle.std.proofs.Common.{◌≡◌, ℕ, ◌+◌, ◌^◌, ◌<◌, ◌≤◌, ◌⊎◌, List, length, map, sym, ap, ◌∙◌, subst, ⊎_elim, arith}
+use Rattle.std.proofs.Common.{◌≡◌, ℕ, ◌+◌, ◌-◌, ◌^◌, ◌<◌, ◌≤◌, ◌⊎◌, List, map, min, sym, ap, ◌∙◌, subst, ⊎_elim, arith}
 use Rattle.pool.specs.Reduction.{Reduction, reduction_below}
 use Rattle.pool.specs.Dealing.{times}
 use Rattle.pool.specs.Inside.Rule.{UpTo}
@@ -8,83 +8,77 @@ use Rattle.pool.specs.Totals.{sum_below, sum_list, once_below}
 use Rattle.pool.specs.Outcomes.{Decides}
 use Rattle.pool.specs.Lawful.{Lawful}
 use Rattle.pool.specs.Holding.{Holding}
-use Rattle.pool.specs.Settled.{AreAll, AllSpent, HaveEachOnce, HaveNoneTwice, numbers_of_all, pieces_of}
-use Rattle.pool.specs.Inside.Fanned.{AreReady, DidAll, AreUnderWay, beginning_at}
+use Rattle.pool.specs.Settled.{AreAll, AllSpent, HaveNoneTwice, numbers_of_all, pieces_of}
+use Rattle.pool.specs.Inside.Done.{Worker, hands_of, sums_of, parts_of}
+use Rattle.pool.specs.Inside.Fanned.{AreReady, DidAll, beginning_at}
 use Rattle.pool.specs.Fanned.{CameBack, Settles, Outweighs, IsAbove}
 use Rattle.pool.specs.declared.laws.Outcome.{Outcome}
 use Rattle.pool.specs.declared.laws.Outcome.TheVariants.{Whole, Over}
 use Rattle.pool.proofs.Sums.{total_fits, total_weight}
-use Rattle.pool.proofs.Fans.{did_all, did_back, did_under_way, did_join}
-use Rattle.pool.proofs.Parts.{each_of, came_room, came_weight, came_whole, came_within, ready_loads, together_fits}
+use Rattle.pool.proofs.Fans.{did_all, did_back}
+use Rattle.pool.proofs.Parts.{each_of, came_counted, came_room, came_weight, came_whole, came_within, together_fits}
 
-module _ {M S P : Type 0} {reduction : Reduction M} (laws : Lawful reduction) (sum : S → ℕ) (meaning : P → M)
-    (hs : List Holding) (ss : List S) (ps : List P) (ready : AreReady reduction sum meaning hs ss ps)
-    (ks : List Holding) (ts : List S) (qs : List P) (did : DidAll (beginning_at reduction (map meaning ps)) reduction sum meaning hs ss ks ts qs) where
-  -- also where the list of hands is another that has the same hands
-  module _ (ls : List Holding) (same : ls ≡ ks) where
-    pub fanned_deal : AreAll ls × (pieces_of ls ≡ pieces_of hs)
-    fanned_deal = let a = did_all reduction sum meaning (beginning_at reduction (map meaning ps)) hs ss ks ts qs did ready.deal.0 in subst (λ l. AreAll l × (pieces_of l ≡ pieces_of hs)) (sym same) (a.1, a.0)
+module _ {M P : Type 0} {reduction : Reduction M} (laws : Lawful reduction) (meaning : P → M) (vs : List (Worker P)) (ready : AreReady reduction meaning vs)
+    (ws : List (Worker P)) (did : DidAll (beginning_at reduction (map meaning (parts_of vs))) reduction meaning vs ws) where
+  its : AreAll (hands_of ws) × (pieces_of (hands_of ws) ≡ pieces_of (hands_of vs))
+  its = let a = did_all reduction meaning (beginning_at reduction (map meaning (parts_of vs))) vs ws did ready.deal.0 in (a.1, a.0)
 
-    pub fanned_back : CameBack (λ j. reduction.weight (reduction.piece j)) sum hs ss ls ts
-    fanned_back = subst (λ l. CameBack (λ j. reduction.weight (reduction.piece j)) sum hs ss l ts) (sym same) (did_back reduction sum meaning (beginning_at reduction (map meaning ps)) hs ss ks ts qs did (λ i h at. (ready.deal.2 i h at).1))
+  -- the hands, as a list of their own
+  module _ (hs : List Holding) (same : hs ≡ hands_of ws) where
+    pub fanned_deal : AreAll hs × (pieces_of hs ≡ pieces_of (hands_of vs))
+    fanned_deal = rw same its
 
-    pub fanned_under_way : AreUnderWay (beginning_at reduction (map meaning ps)) reduction sum meaning ls ts qs
-    fanned_under_way =
-        subst (λ l. AreUnderWay (beginning_at reduction (map meaning ps)) reduction sum meaning l ts qs) (sym same)
-        (did_under_way reduction sum meaning (beginning_at reduction (map meaning ps)) (length hs) hs ss ks ts qs did ready.deal ready.shares (ready_loads laws sum meaning hs ss ps ready) ready.room)
+    pub fanned_back : (sums : List ℕ) → sums ≡ sums_of ws → CameBack (λ j. reduction.weight (reduction.piece j)) (λ n. n) (hands_of vs) (sums_of vs) hs sums
+    fanned_back sums are = rw (same, are) (did_back reduction meaning (beginning_at reduction (map meaning (parts_of vs))) vs ws did (λ i h at. (ready.deal.2 i h at).1))
 
-    -- what they did once they went on, and before
-    pub fanned_twice : (us : List Holding) (vs : List S) (rs : List P) → DidAll (beginning_at reduction (map meaning ps)) reduction sum meaning ls ts us vs rs → DidAll (beginning_at reduction (map meaning ps)) reduction sum meaning hs ss us vs rs
-    fanned_twice us vs rs more = did_join reduction sum meaning (beginning_at reduction (map meaning ps)) hs ss ls ts qs us vs rs (subst (λ l. DidAll (beginning_at reduction (map meaning ps)) reduction sum meaning hs ss l ts qs) (sym same) did) more
+    pub fanned_above : (limit : ℕ) (outcome : Outcome P)
+        → Decides meaning (combination_of reduction (map meaning (parts_of ws))) (reduction.weight (combination_of reduction (map meaning (parts_of ws)))) limit outcome
+        → IsAbove (reduction.weight (combination_of reduction (map meaning (parts_of vs))) + sum_list (λ j. reduction.weight (reduction.piece j)) (numbers_of_all hs)) limit outcome
+    fanned_above limit (Whole p) told = tt
+    fanned_above limit Over told =
+        let all = came_weight laws meaning vs ready ws did in
+        let joined_are = ap (λ l. sum_list (λ j. reduction.weight (reduction.piece j)) (numbers_of_all l)) same in
+        omega (arith, all, joined_are, told)
 
-  -- the hands have no piece twice, and each where all are spent
-  module _ (apart : (x : ℕ) → UpTo (AllSpent ks) (times x (numbers_of_all ks)) (once_below x (pieces_of ks))) where
-    dealt : (x : ℕ) → once_below x (pieces_of ks) ≡ once_below x (pieces_of hs)
-    dealt x = ap (once_below x) (did_all reduction sum meaning (beginning_at reduction (map meaning ps)) hs ss ks ts qs did ready.deal.0).0
+    -- they have no piece twice, and each where all are spent
+    module _ (apart : (x : ℕ) → UpTo (AllSpent hs) (times x (numbers_of_all hs)) (once_below x (pieces_of hs))) where
+      at_most_once : (x : ℕ) → times x (numbers_of_all (hands_of ws)) ≤ once_below x (pieces_of (hands_of vs))
+      at_most_once x = subst (λ l. times x (numbers_of_all l) ≤ once_below x (pieces_of (hands_of vs))) same (subst (λ n. times x (numbers_of_all hs) ≤ once_below x n) fanned_deal.1 (apart x).0)
 
-    at_most_once : (x : ℕ) → times x (numbers_of_all ks) ≤ once_below x (pieces_of hs)
-    at_most_once x = let a = (apart x).0 in let b = dealt x in omega (arith, a, b)
+      pub fanned_room : reduction.load (combination_of reduction (map meaning (parts_of ws))) < 2 ^ 63
+      fanned_room = came_room laws meaning vs ready ws did at_most_once
 
-    all_spent : (limit : ℕ) → AllSpent ks ⊎ (limit < reduction.weight (combination_of reduction (map meaning qs))) → reduction.weight (combination_of reduction (map meaning qs)) ≤ limit → AllSpent ks
-    all_spent limit spent few = ⊎_elim (λ (all : AllSpent ks). all) (λ (above : limit < reduction.weight (combination_of reduction (map meaning qs))). absurd (omega (arith, few, above))) spent
+      pub fanned_counted : (weight : ℕ) → weight ≡ min (reduction.weight (combination_of reduction (map meaning (parts_of ws)))) (2 ^ 64 - 1) → weight ≡ reduction.weight (combination_of reduction (map meaning (parts_of ws)))
+      fanned_counted = came_counted laws meaning vs ready ws did at_most_once
 
-    pub fanned_room : reduction.load (combination_of reduction (map meaning qs)) < 2 ^ 63
-    fanned_room = came_room laws sum meaning hs ss ps ready ks ts qs did at_most_once
+      pub fanned_once : HaveNoneTwice hs
+      fanned_once x = (apart x).0
 
-    -- what was answered of all parts, combined
-    pub fanned_decided : (limit : ℕ) (outcome : Outcome P)
-        → Decides meaning (combination_of reduction (map meaning qs)) (reduction.weight (combination_of reduction (map meaning qs))) limit outcome
-        → AllSpent ks ⊎ (limit < reduction.weight (combination_of reduction (map meaning qs)))
-        → Decides meaning (reduction.combine (combination_of reduction (map meaning ps)) (reduction_below reduction (pieces_of hs))) (reduction.weight (combination_of reduction (map meaning ps)) + sum_below (λ j. reduction.weight (reduction.piece j)) (pieces_of hs)) limit outcome
-    fanned_decided limit (Whole p) told spent =
-        let each : (x : ℕ) → times x (numbers_of_all ks) ≡ once_below x (pieces_of hs) = λ x. (apart x).1 (all_spent limit spent told.1) ∙ dealt x in
-        let whole = came_whole laws sum meaning hs ss ps ready ks ts qs did each in
-        let begin = together_fits laws (map meaning ps) (each_of reduction.fits meaning ps ready.fit) in
-        let count = ap reduction.weight whole ∙ laws.weight_adds _ _ begin (total_fits laws (pieces_of hs)) in
-        let of_all = total_weight laws (pieces_of hs) in
-        let few = told.1 in
-        (told.0 ∙ whole, omega (arith, count, of_all, few))
-    fanned_decided limit Over told spent =
-        let within = came_within laws sum meaning hs ss ps ready ks ts qs did at_most_once in
-        omega (arith, within, told)
+      -- what was answered of all parts, combined
+      module _ (limit : ℕ) (spent : AllSpent (hands_of ws) ⊎ (limit < reduction.weight (combination_of reduction (map meaning (parts_of ws))))) where
+        all_spent : reduction.weight (combination_of reduction (map meaning (parts_of ws))) ≤ limit → AllSpent hs
+        all_spent few =
+            ⊎_elim (λ (all : AllSpent (hands_of ws)). subst AllSpent (sym same) all)
+            (λ (above : limit < reduction.weight (combination_of reduction (map meaning (parts_of ws)))). absurd (omega (arith, few, above))) spent
 
-    module _ (ls : List Holding) (same : ls ≡ ks) where
-      pub fanned_once : HaveNoneTwice ls
-      fanned_once = subst HaveNoneTwice (sym same) (λ x. (apart x).0)
+        pub fanned_settled : (outcome : Outcome P) → Decides meaning (combination_of reduction (map meaning (parts_of ws))) (reduction.weight (combination_of reduction (map meaning (parts_of ws)))) limit outcome → Settles outcome hs
+        fanned_settled (Whole p) told = let all = all_spent told.1 in (all, λ x. (apart x).1 all)
+        fanned_settled Over told = tt
 
-      pub fanned_settled : (limit : ℕ) (outcome : Outcome P) → Decides meaning (combination_of reduction (map meaning qs)) (reduction.weight (combination_of reduction (map meaning qs))) limit outcome
-          → AllSpent ks ⊎ (limit < reduction.weight (combination_of reduction (map meaning qs))) → Settles outcome ls
-      fanned_settled limit (Whole p) told spent = let all = all_spent limit spent told.1 in subst (λ l. AllSpent l × HaveEachOnce l) (sym same) (all, λ x. (apart x).1 all)
-      fanned_settled limit Over told spent = tt
-
-  pub fanned_above : (ls : List Holding) → ls ≡ ks → (limit : ℕ) (outcome : Outcome P)
-      → Decides meaning (combination_of reduction (map meaning qs)) (reduction.weight (combination_of reduction (map meaning qs))) limit outcome
-      → IsAbove (reduction.weight (combination_of reduction (map meaning ps)) + sum_list (λ j. reduction.weight (reduction.piece j)) (numbers_of_all ls)) limit outcome
-  fanned_above ls same limit (Whole p) told = tt
-  fanned_above ls same limit Over told =
-      let all = came_weight laws sum meaning hs ss ps ready ks ts qs did in
-      let joined_are = ap (λ l. sum_list (λ j. reduction.weight (reduction.piece j)) (numbers_of_all l)) same in
-      omega (arith, all, joined_are, told)
+        pub fanned_decided : (outcome : Outcome P) → Decides meaning (combination_of reduction (map meaning (parts_of ws))) (reduction.weight (combination_of reduction (map meaning (parts_of ws)))) limit outcome
+            → Decides meaning (reduction.combine (combination_of reduction (map meaning (parts_of vs))) (reduction_below reduction (pieces_of (hands_of vs)))) (reduction.weight (combination_of reduction (map meaning (parts_of vs))) + sum_below (λ j. reduction.weight (reduction.piece j)) (pieces_of (hands_of vs))) limit outcome
+        fanned_decided (Whole p) told =
+            let each : (x : ℕ) → times x (numbers_of_all (hands_of ws)) ≡ once_below x (pieces_of (hands_of vs)) =
+            λ x. subst (λ l. times x (numbers_of_all l) ≡ once_below x (pieces_of (hands_of vs))) same ((apart x).1 (all_spent told.1) ∙ ap (once_below x) fanned_deal.1) in
+            let whole = came_whole laws meaning vs ready ws did each in
+            let begin = together_fits laws (map meaning (parts_of vs)) (each_of reduction.fits meaning (parts_of vs) ready.fit) in
+            let count = ap reduction.weight whole ∙ laws.weight_adds _ _ begin (total_fits laws (pieces_of (hands_of vs))) in
+            let of_all = total_weight laws (pieces_of (hands_of vs)) in
+            let few = told.1 in
+            (told.0 ∙ whole, omega (arith, count, of_all, few))
+        fanned_decided Over told =
+            let within = came_within laws meaning vs ready ws did at_most_once in
+            omega (arith, within, told)
 
 -- a part made before that means what the unit means is as none
 module _ {M P : Type 0} {reduction : Reduction M} (laws : Lawful reduction) (meaning : P → M) (first : M) (is : first ≡ reduction.unit) where

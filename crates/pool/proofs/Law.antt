@@ -5,7 +5,7 @@ use Rattle.std.proofs.lemmas.Nat.{mod_below}
 use Rattle.pool.specs.Dealing.{State, take_first, state, deal_begin, deal_step, deal_after, times_in, AreStepsOf, IsEachInOnePlace}
 use Rattle.pool.specs.Totals.{sum_below, once_below}
 use Rattle.pool.proofs.Deals.{dealt_times}
-use Rattle.pool.proofs.Rules.{sum_put}
+use Rattle.pool.proofs.Machine.{sum_put}
 
 sum_same : (f g : ℕ → ℕ) (n : ℕ) → ((i : ℕ) → f i ≡ g i) → sum_below f n ≡ sum_below g n
 sum_same f g zero same = refl

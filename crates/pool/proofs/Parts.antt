@@ -1,19 +1,21 @@
 -- The parts that hands begin with, and those that they come to.
-use Rattle.std.proofs.Common.{◌≡◌, ℕ, zero, suc, ◌+◌, ◌^◌, ◌<◌, ◌≤◌, List, [], ◌∷◌, ◌++◌, length, map, All, sym, refl, ap, ◌∙◌, subst, arith}
+use Rattle.std.proofs.Common.{◌≡◌, ℕ, zero, suc, ◌+◌, ◌-◌, ◌^◌, ◌<◌, ◌≤◌, List, [], ◌∷◌, ◌++◌, length, map, min, All, sym, refl, ap, ◌∙◌, subst, arith}
 use Rattle.std.proofs.lemmas.List.{length-map}
-use mathlib.Core.Option.{some, some-injective, some-ne-none}
+use mathlib.Core.Option.{some}
 use lib.ListN.{get_elem?}
 use Rattle.pool.specs.Reduction.{Reduction, reduction_below}
 use Rattle.pool.specs.Dealing.{times}
 use Rattle.pool.specs.Inside.Totals.{combination_of, reduction_from}
 use Rattle.pool.specs.Totals.{once_below, sum_below, sum_list}
 use Rattle.pool.specs.Lawful.{Lawful}
-use Rattle.pool.specs.Holding.{Holding, numbers_of}
+use Rattle.pool.specs.Holding.{Holding, IsHolding, numbers_of}
 use Rattle.pool.specs.Settled.{numbers_of_all, pieces_of}
-use Rattle.pool.specs.Assembly.{IsNewDeal}
-use Rattle.pool.specs.Inside.Fanned.{AreReady, AreUnderWay, beginning_at, DidAll}
+use Rattle.pool.specs.Assembly.{IsFresh, IsNewDeal}
+use Rattle.pool.specs.Inside.Done.{Worker, hands_of, sums_of, parts_of}
+use Rattle.pool.specs.Inside.Fanned.{AreReady, AreUnderWay, beginning_at, DidAll, HaveResumed}
+use Rattle.pool.proofs.Fans.{all_at, all_map, did_all, did_under_way}
 use Rattle.pool.proofs.Gather.{gathered_fits, gathered_whole, onto-append, onto_apart, onto_fits, onto_load, onto_weight, sum_list-within, unit_after}
-use Rattle.pool.proofs.Works.{may_begin}
+use Rattle.pool.proofs.Works.{light_part, may_begin}
 
 -- each of a list has this
 abbrev pub Each : {M : Type 0} → (M → Type 0) → List M → Type 0
@@ -29,10 +31,13 @@ all_each Has meaning [] each i d low = absurd (omega (arith, low))
 all_each Has meaning (p ∷ ps) each zero d low = each.0
 all_each Has meaning (p ∷ ps) each (suc i) d low = all_each Has meaning ps each.1 i d (omega (arith, low))
 
-pub begun_at : {M P : Type 0} (reduction : Reduction M) (meaning : P → M) (ps : List P) (i : ℕ) (p : P) → get_elem? ps i ≡ some p → meaning p ≡ beginning_at reduction (map meaning ps) i
-begun_at reduction meaning [] i p at = absurd (some-ne-none p (sym at))
-begun_at reduction meaning (q ∷ qs) zero p at = ap meaning (sym (some-injective q p at))
-begun_at reduction meaning (q ∷ qs) (suc i) p at = begun_at reduction meaning qs i p at
+length-parts_of : {P : Type 0} (ws : List (Worker P)) → length (parts_of ws) ≡ length ws
+length-parts_of [] = refl
+length-parts_of (w ∷ ws) = ap suc (length-parts_of ws)
+
+pub light_fit : {M : Type 0} (reduction : Reduction M) (ms : List M) → Each (λ m. reduction.fits m × (reduction.load m < 2 ^ 63)) ms → Each reduction.fits ms
+light_fit reduction [] each = tt
+light_fit reduction (m ∷ ms) each = (each.0.0, light_fit reduction ms each.1)
 
 module _ {M : Type 0} {reduction : Reduction M} (laws : Lawful reduction) where
   pub together_fits : (ms : List M) → Each reduction.fits ms → reduction.fits (combination_of reduction ms)
@@ -84,102 +89,143 @@ module _ {M : Type 0} {reduction : Reduction M} (laws : Lawful reduction) where
       pub next_weight : reduction.weight (combination_of reduction (map meaning ls)) ≡ reduction.weight (meaning x) + reduction.weight (combination_of reduction (map meaning xs))
       next_weight = ap reduction.weight next_together ∙ laws.weight_adds _ _ next_each.0 (together_fits (map meaning xs) next_each.1)
 
-  module _ {S P : Type 0} (sum : S → ℕ) (meaning : P → M) where
+  module _ {P : Type 0} (meaning : P → M) where
     -- whatever the hands did: the parts come to what they began with and all that was taken
-    pub did_together : (ms : List M) (hs : List Holding) (ss : List S) (ks : List Holding) (ts : List S) (ps : List P) → Each reduction.fits ms → length ms ≡ length hs
-        → DidAll (beginning_at reduction ms) reduction sum meaning hs ss ks ts ps
-        → Each reduction.fits (map meaning ps) × (combination_of reduction (map meaning ps) ≡ reduction.combine (combination_of reduction ms) (reduction_from reduction reduction.unit (numbers_of_all ks)))
-    did_together [] [] ss ks ts ps each count all = rw (all.1, all.3) (tt, sym (laws.unit_combined reduction.unit laws.unit_fits))
-    did_together [] (h ∷ hs) ss ks ts ps each count all = absurd (omega (arith, count))
-    did_together (m ∷ ms) [] ss ks ts ps each count all = absurd (omega (arith, count))
-    did_together (m ∷ ms) (h ∷ hs) ss ks ts ps each count (s, k, t, p, ss', ks', ts', ps', es, ek, et, ep, d, rest) =
-        let r = did_together ms hs ss' ks' ts' ps' each.1 (omega (arith, count)) rest in
-        let its = numbers_of k in
-        let others = numbers_of_all ks' in
-        let is = d.part ∙ onto_apart laws m each.0 its in
-        rw (ek, ep) (
-          (subst reduction.fits (sym d.part) (onto_fits laws m each.0 its), r.0),
-          ap (λ x. reduction.combine x (combination_of reduction (map meaning ps'))) is
+    pub did_together : (ms : List M) (vs ws : List (Worker P)) → Each reduction.fits ms → length ms ≡ length vs
+        → DidAll (beginning_at reduction ms) reduction meaning vs ws
+        → Each reduction.fits (map meaning (parts_of ws)) × (combination_of reduction (map meaning (parts_of ws)) ≡ reduction.combine (combination_of reduction ms) (reduction_from reduction reduction.unit (numbers_of_all (hands_of ws))))
+    did_together [] [] [] each count all = (tt, sym (laws.unit_combined reduction.unit laws.unit_fits))
+    did_together [] [] (w ∷ ws) each count all = absurd all
+    did_together [] (v ∷ vs) ws each count all = absurd (omega (arith, count))
+    did_together (m ∷ ms) [] ws each count all = absurd (omega (arith, count))
+    did_together (m ∷ ms) (v ∷ vs) [] each count all = absurd all
+    did_together (m ∷ ms) (v ∷ vs) (w ∷ ws) each count all =
+        let r = did_together ms vs ws each.1 (omega (arith, count)) all.1 in
+        let its = numbers_of w.hand in
+        let others = numbers_of_all (hands_of ws) in
+        let is = all.0.part ∙ onto_apart laws m each.0 its in (
+          (subst reduction.fits (sym all.0.part) (onto_fits laws m each.0 its), r.0),
+          ap (λ x. reduction.combine x (combination_of reduction (map meaning (parts_of ws)))) is
               ∙ ap (reduction.combine (reduction.combine m (reduction_from reduction reduction.unit its))) r.1
               ∙ crossed m (reduction_from reduction reduction.unit its) (combination_of reduction ms) (reduction_from reduction reduction.unit others) each.0 (gathered_fits laws its) (together_fits ms each.1) (gathered_fits laws others)
               ∙ ap (reduction.combine (reduction.combine m (combination_of reduction ms))) (sym (onto-append laws reduction.unit laws.unit_fits its others)),
         )
 
+    -- new hands may go on, each from its part
+    new_under_way : (ws : List (Worker P)) (pieces : ℕ) → Each reduction.fits (map meaning (parts_of ws)) → ((i : ℕ) (h : Holding) → get_elem? (hands_of ws) i ≡ some h → IsFresh pieces h)
+        → ((i : ℕ) → reduction.load (beginning_at reduction (map meaning (parts_of ws)) i) + sum_below (λ j. reduction.load (reduction.piece j)) pieces < 2 ^ 63)
+        → ((i : ℕ) (s : ℕ) → get_elem? (sums_of ws) i ≡ some s → sum_below (λ j. reduction.load (reduction.piece j)) pieces + s < 2 ^ 63) → AreUnderWay (beginning_at reduction (map meaning (parts_of ws))) reduction meaning ws
+    new_under_way [] pieces each new loads room = tt
+    new_under_way (w ∷ ws) pieces each new loads room =
+        let n = new 0 w.hand refl in (
+          may_begin laws (meaning w.part) each.0 w.hand w.sum (meaning w.part) n.1 refl
+              (subst (λ p. reduction.load (meaning w.part) + sum_below (λ j. reduction.load (reduction.piece j)) p < 2 ^ 63) (sym n.0) (loads 0))
+              (subst (λ p. sum_below (λ j. reduction.load (reduction.piece j)) p + w.sum < 2 ^ 63) (sym n.0) (room 0 w.sum refl)),
+          new_under_way ws pieces each.1 (λ i h at. new (suc i) h at) (λ i. loads (suc i)) (λ i s at. room (suc i) s at),
+        )
+
+    -- the parts of those who are under way fit, and have no great load
+    light_parts : (begin : ℕ → M) (ws : List (Worker P)) → ((i : ℕ) → reduction.fits (begin i)) → AreUnderWay begin reduction meaning ws → ((i : ℕ) (h : Holding) → get_elem? (hands_of ws) i ≡ some h → IsHolding h)
+        → Each (λ m. reduction.fits m × (reduction.load m < 2 ^ 63)) (map meaning (parts_of ws))
+    light_parts begin [] fits all holding = tt
+    light_parts begin (w ∷ ws) fits all holding = (
+      (subst reduction.fits (sym all.0.part) (onto_fits laws (begin 0) (fits 0) (numbers_of w.hand)), light_part laws (begin 0) (fits 0) w.hand w.sum (meaning w.part) all.0 (holding 0 w.hand refl)),
+      light_parts (λ i. begin (suc i)) ws (λ i. fits (suc i)) all.1 (λ i h at. holding (suc i) h at),
+    )
+
     -- hands of a new deal, with parts that come to one that was made before
-    pub ready_new : (hs : List Holding) (ss : List S) (ps : List P) (n : ℕ) (first : M) → IsNewDeal (pieces_of hs) n hs → length ss ≡ n → length ps ≡ n
-        → All (λ p. reduction.fits (meaning p)) ps → combination_of reduction (map meaning ps) ≡ first → reduction.load first + sum_below (λ j. reduction.load (reduction.piece j)) (pieces_of hs) < 2 ^ 63
-        → ((i : ℕ) (s : S) → get_elem? ss i ≡ some s → sum_below (λ j. reduction.load (reduction.piece j)) (pieces_of hs) + sum s < 2 ^ 63) → AreReady reduction sum meaning hs ss ps
-    ready_new hs ss ps n first new shares parts fit is loads room = record {
-      deal = subst (λ k. IsNewDeal (pieces_of hs) k hs) (sym new.1) new;
-      shares = shares ∙ sym new.1;
-      parts = parts ∙ sym new.1;
-      fit = fit;
-      loads = subst (λ m. reduction.load m + sum_below (λ j. reduction.load (reduction.piece j)) (pieces_of hs) < 2 ^ 63) (sym is) loads;
-      room = room;
+    pub ready_new : {S : Type 0} (sum : S → ℕ) (ws : List (Worker P)) (hs : List Holding) (ss : List S) (ps : List P) (n : ℕ) (first : M) → hands_of ws ≡ hs → sums_of ws ≡ map sum ss → parts_of ws ≡ ps
+        → IsNewDeal (pieces_of hs) n hs → All (λ p. reduction.fits (meaning p)) ps → combination_of reduction (map meaning ps) ≡ first → reduction.load first + sum_below (λ j. reduction.load (reduction.piece j)) (pieces_of hs) < 2 ^ 63
+        → ((i : ℕ) (s : S) → get_elem? ss i ≡ some s → sum_below (λ j. reduction.load (reduction.piece j)) (pieces_of hs) + sum s < 2 ^ 63) → AreReady reduction meaning ws
+    ready_new sum ws hs ss ps n first hands sums parts new fit is loads room = record {
+      deal = rw hands (subst (λ k. IsNewDeal (pieces_of hs) k hs) (sym new.1) new);
+      fit = subst (λ l. All (λ p. reduction.fits (meaning p)) l) (sym parts) fit;
+      loads = rw (hands, parts, is) loads;
+      room = rw (hands, sums) (all_map (λ n. sum_below (λ j. reduction.load (reduction.piece j)) (pieces_of hs) + n < 2 ^ 63) sum ss room);
     }
 
-    module _ (hs : List Holding) (ss : List S) (ps : List P) (ready : AreReady reduction sum meaning hs ss ps) where
-      -- hands of a new deal may go on, each from its part
-      pub ready_begins : (i : ℕ) → reduction.fits (beginning_at reduction (map meaning ps) i)
-      ready_begins i = begun_fits (map meaning ps) (each_of reduction.fits meaning ps ready.fit) i
+    module _ (vs : List (Worker P)) (ready : AreReady reduction meaning vs) where
+      ready_each : Each reduction.fits (map meaning (parts_of vs))
+      ready_each = each_of reduction.fits meaning (parts_of vs) ready.fit
 
-      pub ready_loads : (i : ℕ) → reduction.load (beginning_at reduction (map meaning ps) i) + sum_below (λ j. reduction.load (reduction.piece j)) (pieces_of hs) < 2 ^ 63
+      pub ready_begins : (i : ℕ) → reduction.fits (beginning_at reduction (map meaning (parts_of vs)) i)
+      ready_begins i = begun_fits (map meaning (parts_of vs)) ready_each i
+
+      ready_loads : (i : ℕ) → reduction.load (beginning_at reduction (map meaning (parts_of vs)) i) + sum_below (λ j. reduction.load (reduction.piece j)) (pieces_of (hands_of vs)) < 2 ^ 63
       ready_loads i =
-          let a = begun_load (map meaning ps) (each_of reduction.fits meaning ps ready.fit) i in
+          let a = begun_load (map meaning (parts_of vs)) ready_each i in
           let b = ready.loads in
           omega (arith, a, b)
 
-      pub ready_under_way : AreUnderWay (beginning_at reduction (map meaning ps)) reduction sum meaning hs ss ps
-      ready_under_way = (
-        sym ready.shares,
-        sym ready.parts,
-        λ i h s p fh fs fp.
-            let new = ready.deal.2 i h fh in
-            may_begin laws (beginning_at reduction (map meaning ps) i) (ready_begins i) h (sum s) (meaning p) new.1 (begun_at reduction meaning ps i p fp)
-            (subst (λ n. reduction.load (beginning_at reduction (map meaning ps) i) + sum_below (λ j. reduction.load (reduction.piece j)) n < 2 ^ 63) (sym new.0) (ready_loads i))
-            (subst (λ n. sum_below (λ j. reduction.load (reduction.piece j)) n + sum s < 2 ^ 63) (sym new.0) (ready.room i s fs)),
-      )
+      ready_room : (i : ℕ) (s : ℕ) → get_elem? (sums_of vs) i ≡ some s → sum_below (λ j. reduction.load (reduction.piece j)) (pieces_of (hands_of vs)) + s < 2 ^ 63
+      ready_room i s at = all_at (λ n. sum_below (λ j. reduction.load (reduction.piece j)) (pieces_of (hands_of vs)) + n < 2 ^ 63) (sums_of vs) i s at ready.room
 
-      module _ (ks : List Holding) (ts : List S) (qs : List P) (did : DidAll (beginning_at reduction (map meaning ps)) reduction sum meaning hs ss ks ts qs) where
-        came : Each reduction.fits (map meaning qs) × (combination_of reduction (map meaning qs) ≡ reduction.combine (combination_of reduction (map meaning ps)) (reduction_from reduction reduction.unit (numbers_of_all ks)))
-        came = did_together (map meaning ps) hs ss ks ts qs (each_of reduction.fits meaning ps ready.fit) (length-map ps meaning ∙ ready.parts) did
+      pub ready_under_way : AreUnderWay (beginning_at reduction (map meaning (parts_of vs))) reduction meaning vs
+      ready_under_way = new_under_way vs (pieces_of (hands_of vs)) ready_each ready.deal.2 ready_loads ready_room
 
-        begin_fits : reduction.fits (combination_of reduction (map meaning ps))
-        begin_fits = together_fits (map meaning ps) (each_of reduction.fits meaning ps ready.fit)
+      -- what they did, where they began with these parts
+      pub resumed_did : (ws : List (Worker P)) → HaveResumed reduction meaning vs ws → DidAll (beginning_at reduction (map meaning (parts_of vs))) reduction meaning vs ws
+      resumed_did ws resumed = resumed (beginning_at reduction (map meaning (parts_of vs))) ready_begins ready_under_way
 
-        pub came_fit : All (λ q. reduction.fits (meaning q)) qs
-        came_fit = all_each reduction.fits meaning qs came.0
+      module _ (ws : List (Worker P)) (did : DidAll (beginning_at reduction (map meaning (parts_of vs))) reduction meaning vs ws) where
+        pub came_under_way : AreUnderWay (beginning_at reduction (map meaning (parts_of vs))) reduction meaning ws
+        came_under_way =
+            let deal = ready.deal.0 in
+            did_under_way reduction meaning deal.2.0 (pieces_of (hands_of vs)) (length (hands_of vs)) (beginning_at reduction (map meaning (parts_of vs))) vs ws did
+            (λ i h at. ((ready.deal.2 i h at).1, (i, deal.2.1 i h at))) ready_loads ready_room
 
-        pub came_weight : reduction.weight (combination_of reduction (map meaning qs)) ≡ reduction.weight (combination_of reduction (map meaning ps)) + sum_list (λ j. reduction.weight (reduction.piece j)) (numbers_of_all ks)
+        came : Each reduction.fits (map meaning (parts_of ws)) × (combination_of reduction (map meaning (parts_of ws)) ≡ reduction.combine (combination_of reduction (map meaning (parts_of vs))) (reduction_from reduction reduction.unit (numbers_of_all (hands_of ws))))
+        came = did_together (map meaning (parts_of vs)) vs ws ready_each (length-map (parts_of vs) meaning ∙ length-parts_of vs) did
+
+        begin_fits : reduction.fits (combination_of reduction (map meaning (parts_of vs)))
+        begin_fits = together_fits (map meaning (parts_of vs)) ready_each
+
+        pub came_fit : All (λ p. reduction.fits (meaning p)) (parts_of ws)
+        came_fit = all_each reduction.fits meaning (parts_of ws) came.0
+
+        pub came_light : All (λ p. reduction.fits (meaning p) × (reduction.load (meaning p) < 2 ^ 63)) (parts_of ws)
+        came_light =
+            let deal = did_all reduction meaning (beginning_at reduction (map meaning (parts_of vs))) vs ws did ready.deal.0 in
+            all_each (λ m. reduction.fits m × (reduction.load m < 2 ^ 63)) meaning (parts_of ws)
+            (light_parts (beginning_at reduction (map meaning (parts_of vs))) ws ready_begins came_under_way (λ i h at. (deal.1.2.1 i h at).5))
+
+        pub came_weight : reduction.weight (combination_of reduction (map meaning (parts_of ws))) ≡ reduction.weight (combination_of reduction (map meaning (parts_of vs))) + sum_list (λ j. reduction.weight (reduction.piece j)) (numbers_of_all (hands_of ws))
         came_weight =
-            let a = ap reduction.weight came.1 ∙ laws.weight_adds _ _ begin_fits (gathered_fits laws (numbers_of_all ks)) in
-            let b = onto_weight laws reduction.unit laws.unit_fits (numbers_of_all ks) in
+            let a = ap reduction.weight came.1 ∙ laws.weight_adds _ _ begin_fits (gathered_fits laws (numbers_of_all (hands_of ws))) in
+            let b = onto_weight laws reduction.unit laws.unit_fits (numbers_of_all (hands_of ws)) in
             let c = laws.unit_weight in
             omega (arith, a, b, c)
 
-        came_load : reduction.load (combination_of reduction (map meaning qs)) ≡ reduction.load (combination_of reduction (map meaning ps)) + sum_list (λ j. reduction.load (reduction.piece j)) (numbers_of_all ks)
+        came_load : reduction.load (combination_of reduction (map meaning (parts_of ws))) ≡ reduction.load (combination_of reduction (map meaning (parts_of vs))) + sum_list (λ j. reduction.load (reduction.piece j)) (numbers_of_all (hands_of ws))
         came_load =
-            let a = ap reduction.load came.1 ∙ laws.load_adds _ _ begin_fits (gathered_fits laws (numbers_of_all ks)) in
-            let b = onto_load laws reduction.unit laws.unit_fits (numbers_of_all ks) in
+            let a = ap reduction.load came.1 ∙ laws.load_adds _ _ begin_fits (gathered_fits laws (numbers_of_all (hands_of ws))) in
+            let b = onto_load laws reduction.unit laws.unit_fits (numbers_of_all (hands_of ws)) in
             let c = laws.unit_load in
             omega (arith, a, b, c)
 
         -- where no piece was taken twice
-        module _ (once : (x : ℕ) → times x (numbers_of_all ks) ≤ once_below x (pieces_of hs)) where
-          pub came_room : reduction.load (combination_of reduction (map meaning qs)) < 2 ^ 63
+        module _ (once : (x : ℕ) → times x (numbers_of_all (hands_of ws)) ≤ once_below x (pieces_of (hands_of vs))) where
+          pub came_room : reduction.load (combination_of reduction (map meaning (parts_of ws))) < 2 ^ 63
           came_room =
               let a = came_load in
-              let b = sum_list-within (λ j. reduction.load (reduction.piece j)) (pieces_of hs) (numbers_of_all ks) once in
+              let b = sum_list-within (λ j. reduction.load (reduction.piece j)) (pieces_of (hands_of vs)) (numbers_of_all (hands_of ws)) once in
               let c = ready.loads in
               omega (arith, a, b, c)
 
-          pub came_within : reduction.weight (combination_of reduction (map meaning qs)) ≤ reduction.weight (combination_of reduction (map meaning ps)) + sum_below (λ j. reduction.weight (reduction.piece j)) (pieces_of hs)
+          -- so the weight that was counted is the whole weight
+          pub came_counted : (weight : ℕ) → weight ≡ min (reduction.weight (combination_of reduction (map meaning (parts_of ws)))) (2 ^ 64 - 1) → weight ≡ reduction.weight (combination_of reduction (map meaning (parts_of ws)))
+          came_counted weight is =
+              let a = laws.weight_at_most_load _ (together_fits (map meaning (parts_of ws)) came.0) in
+              let b = came_room in
+              omega (arith, is, a, b)
+
+          pub came_within : reduction.weight (combination_of reduction (map meaning (parts_of ws))) ≤ reduction.weight (combination_of reduction (map meaning (parts_of vs))) + sum_below (λ j. reduction.weight (reduction.piece j)) (pieces_of (hands_of vs))
           came_within =
               let a = came_weight in
-              let b = sum_list-within (λ j. reduction.weight (reduction.piece j)) (pieces_of hs) (numbers_of_all ks) once in
+              let b = sum_list-within (λ j. reduction.weight (reduction.piece j)) (pieces_of (hands_of vs)) (numbers_of_all (hands_of ws)) once in
               omega (arith, a, b)
 
         -- where each piece was taken
-        pub came_whole : ((x : ℕ) → times x (numbers_of_all ks) ≡ once_below x (pieces_of hs))
-            → combination_of reduction (map meaning qs) ≡ reduction.combine (combination_of reduction (map meaning ps)) (reduction_below reduction (pieces_of hs))
-        came_whole each = came.1 ∙ ap (reduction.combine (combination_of reduction (map meaning ps))) (gathered_whole laws (pieces_of hs) (numbers_of_all ks) each)
+        pub came_whole : ((x : ℕ) → times x (numbers_of_all (hands_of ws)) ≡ once_below x (pieces_of (hands_of vs)))
+            → combination_of reduction (map meaning (parts_of ws)) ≡ reduction.combine (combination_of reduction (map meaning (parts_of vs))) (reduction_below reduction (pieces_of (hands_of vs)))
+        came_whole each = came.1 ∙ ap (reduction.combine (combination_of reduction (map meaning (parts_of vs)))) (gathered_whole laws (pieces_of (hands_of vs)) (numbers_of_all (hands_of ws)) each)

@@ -9,7 +9,7 @@ use Rattle.pool.specs.Dealing.{residue_class, times}
 use Rattle.pool.specs.Inside.Totals.{reduction_from}
 use Rattle.pool.specs.Totals.{sum_below, sum_list, once_below}
 use Rattle.pool.specs.Lawful.{Lawful}
-use Rattle.pool.specs.Seen.{Seen}
+use Rattle.pool.specs.Seen.{Seen, list}
 use Rattle.pool.specs.Holding.{Holding, IsHolding, IsRound, Gained, lists_of, numbers_of}
 use Rattle.pool.specs.Inside.Done.{Did, MayGoOn}
 use Rattle.pool.specs.Fanned.{Follows}
@@ -17,7 +17,7 @@ use Rattle.pool.specs.Answered.{Answers}
 use Rattle.pool.specs.declared.deal.Next.{Next}
 use Rattle.pool.specs.declared.deal.Next.TheVariants.{Piece, Spent}
 use Rattle.pool.proofs.Nexts.{belongs_next}
-use Rattle.pool.proofs.Rules.{times-append}
+use Rattle.pool.proofs.Machine.{times-append, taken_within}
 use Rattle.pool.proofs.Deals.{dealt_times}
 use Rattle.pool.proofs.Gather.{sum_list-middle, sum_list-within, onto-middle, onto_fits, onto_load}
 
@@ -34,9 +34,9 @@ round_within : (number hands pieces z r : ℕ) (ss : List Seen) → IsRound numb
     → (times z (lists_of ss) ≤ once_below z pieces) × (((j : ℕ) → r ≤ j → j < r + length ss → (number + j) % hands ≢ z % hands) → times z (lists_of ss) ≡ 0)
 round_within number hands pieces z r [] round fits = (omega arith, λ _. refl)
 round_within number hands pieces z r (s ∷ ss) round fits =
-    let rest = round_within number hands pieces z (r + 1) ss round.3 (omega arith) in
-    let both = times-append z s.list (lists_of ss) in
-    let most : times z s.list ≤ times z (residue_class hands ((number + r) % hands) pieces) = subst (λ l. times z s.list ≤ times z l) round.1 (round.2.0 z) in
+    let rest = round_within number hands pieces z (r + 1) ss round.2 (omega arith) in
+    let both = times-append z (list s) (lists_of ss) in
+    let most : times z (list s) ≤ times z (residue_class hands ((number + r) % hands) pieces) = subst (λ l. times z (list s) ≤ times z l) round.1 (taken_within z s.numbers s.history s.place) in
     let its = dealt_times hands ((number + r) % hands) pieces z in (
       ⊎_elim (λ (e : z % hands ≡ (number + r) % hands).
           let none = rest.1 (λ j low high same. mod_apart (number + r) (let d : ℕ = j - r in d) hands (omega arith) (omega arith) (ap (λ n. n % hands) (let s : number + r + (j - r) ≡ number + j = omega arith in s) ∙ same ∙ e)) in
@@ -53,27 +53,28 @@ mod_small a k h = rw add-zero (mod-eq_of_lt h)
 pub holding_within : (h : Holding) (z : ℕ) → IsHolding h → times z (numbers_of h) ≤ once_below z h.pieces
 holding_within h z is =
     let s : h.own.seen.numbers ≡ residue_class h.hands ((h.number + 0) % h.hands) h.pieces = is.2 ∙ ap (λ n. residue_class h.hands n h.pieces) (sym (mod_small h.number h.hands is.0)) in
-    (round_within h.number h.hands h.pieces z 0 (h.own.seen ∷ h.others) (is.1, s, is.5, is.4) (omega (arith, is.3))).0
+    (round_within h.number h.hands h.pieces z 0 (h.own.seen ∷ h.others) (is.1, s, is.4) (omega (arith, is.3))).0
 
 -- x joined the list
 abbrev pub Grown : List ℕ → ℕ → List ℕ → Type 0
 Grown old x new = (ys : List ℕ) × (zs : List ℕ) × (old ≡ ys ++ zs) × (new ≡ ys ++ x ∷ zs)
 
-lists_grown : (ss : List Seen) (r x : ℕ) (old s : Seen) → get_elem? ss r ≡ some old → s.list ≡ old.list ++ x ∷ [] → Grown (lists_of ss) x (lists_of (set ss r s))
+lists_grown : (ss : List Seen) (r x : ℕ) (old s : Seen) → get_elem? ss r ≡ some old → list s ≡ list old ++ x ∷ [] → Grown (lists_of ss) x (lists_of (set ss r s))
 lists_grown [] r x old s at e = absurd (some-ne-none old (sym at))
 lists_grown (t ∷ ts) zero x old s at e =
-    let same = ap (λ (u : Seen). u.list) (some-injective t old at) in
-    (t.list, lists_of ts, refl, ap (λ l. l ++ lists_of ts) (e ∙ ap (λ l. l ++ x ∷ []) (sym same)) ∙ append_assoc t.list (x ∷ []) (lists_of ts))
+    let same = ap (λ (u : Seen). list u) (some-injective t old at) in
+    ((list t), lists_of ts, refl, ap (λ l. l ++ lists_of ts) (e ∙ ap (λ l. l ++ x ∷ []) (sym same)) ∙ append_assoc (list t) (x ∷ []) (lists_of ts))
 lists_grown (t ∷ ts) (suc r) x old s at e =
     let g = lists_grown ts r x old s at e in
-    (t.list ++ g.0, g.1, ap (λ l. t.list ++ l) g.2 ∙ sym (append_assoc t.list g.0 g.1), ap (λ l. t.list ++ l) g.3 ∙ sym (append_assoc t.list g.0 (x ∷ g.1)))
+    ((list t) ++ g.0, g.1, ap (λ l. (list t) ++ l) g.2 ∙ sym (append_assoc (list t) g.0 g.1), ap (λ l. (list t) ++ l) g.3 ∙ sym (append_assoc (list t) g.0 (x ∷ g.1)))
 
 pub holding_grown : (h k : Holding) (x : ℕ) → Gained h x k → Grown (numbers_of h) x (numbers_of k)
 holding_grown h k x = λ g. ⊎_elim
-    (λ (o : _). let e = ap (λ (u : Seen). u.list) o.1.0 in
-    (h.own.seen.list, lists_of h.others, refl, ap numbers_of o.2 ∙ ap (λ l. l ++ lists_of h.others) e ∙ append_assoc h.own.seen.list (x ∷ []) (lists_of h.others)))
-    (λ (o : _). let e = ap (λ (u : Seen). u.list) o.4.0 in let g = lists_grown h.others o.0 x o.1 o.2 o.3 e in
-    (h.own.seen.list ++ g.0, g.1, ap (λ l. h.own.seen.list ++ l) g.2 ∙ sym (append_assoc h.own.seen.list g.0 g.1), ap numbers_of o.5 ∙ ap (λ l. h.own.seen.list ++ l) g.3 ∙ sym (append_assoc h.own.seen.list g.0 (x ∷ g.1))))
+    (λ (o : _). let e = o.1.3 in
+    (list h.own.seen, lists_of h.others, refl, ap numbers_of o.2 ∙ ap (λ l. l ++ lists_of h.others) e ∙ append_assoc (list h.own.seen) (x ∷ []) (lists_of h.others)))
+    (λ (f : _). let o = f.2 in let e = o.4.3 in let g = lists_grown h.others o.0 x o.1 o.2 o.3 e in
+    let had = f.1.3 in
+    (list h.own.seen ++ g.0, g.1, ap (λ l. list h.own.seen ++ l) g.2 ∙ sym (append_assoc (list h.own.seen) g.0 g.1), ap numbers_of o.5 ∙ ap (λ l. l ++ lists_of (set h.others o.0 o.2)) had ∙ ap (λ l. list h.own.seen ++ l) g.3 ∙ sym (append_assoc (list h.own.seen) g.0 (x ∷ g.1))))
     g
 
 pub grown_sum : (f : ℕ → ℕ) (old new : List ℕ) (x : ℕ) → Grown old x new → sum_list f new ≡ sum_list f old + f x
@@ -86,7 +87,7 @@ pub follows_next : (h k : Holding) (answer : Next) → Answers h k answer → Is
 follows_next h k answer a i names pieces hands number b = belongs_next names pieces hands number h k answer a i b
 
 pub gained_pieces : (h k : Holding) (x : ℕ) → Gained h x k → k.pieces ≡ h.pieces
-gained_pieces h k x = λ g. ⊎_elim (λ (o : _). ap (λ (u : Holding). u.pieces) o.2) (λ (o : _). ap (λ (u : Holding). u.pieces) o.5) g
+gained_pieces h k x = λ g. ⊎_elim (λ (o : _). ap (λ (u : Holding). u.pieces) o.2) (λ (o : _). ap (λ (u : Holding). u.pieces) o.2.5) g
 
 module _ {M : Type 0} {reduction : Reduction M} (laws : Lawful reduction) where
   pub weights_at_most_loads : (xs : List ℕ) → sum_list (λ i. reduction.weight (reduction.piece i)) xs ≤ sum_list (λ i. reduction.load (reduction.piece i)) xs
@@ -108,6 +109,14 @@ module _ {M : Type 0} {reduction : Reduction M} (laws : Lawful reduction) (begin
   may_begin h s m new first loads room =
       let none = ap (sum_list (λ i. reduction.weight (reduction.piece i))) new in
       record { part = first ∙ ap (reduction_from reduction begin) (sym new); loads = loads; room = omega (arith, none, room) }
+
+  -- the part of a worker that may go on has no great load
+  pub light_part : (h : Holding) (s : ℕ) (m : M) → MayGoOn begin reduction h s m → IsHolding h → reduction.load m < 2 ^ 63
+  light_part h s m may holding =
+      let a = sum_list-within (λ i. reduction.load (reduction.piece i)) h.pieces (numbers_of h) (λ z. holding_within h z holding) in
+      let b = may.loads in
+      let e = ap reduction.load may.part ∙ onto_load laws begin its (numbers_of h) in
+      omega (arith, a, b, e)
 
   -- a worker that may go on, and went on, may go on again
   pub may_again : (h : Holding) (s : ℕ) (m : M) (k : Holding) (t : ℕ) (n : M) → k.pieces ≡ h.pieces → MayGoOn begin reduction h s m → Did begin reduction h s k t n → MayGoOn begin reduction k t n
@@ -149,7 +158,7 @@ module _ {M : Type 0} {reduction : Reduction M} (laws : Lawful reduction) (begin
   -- a hand that is spent has what it had
   pub did_nothing : (h k : Holding) (s : ℕ) (m : M) → MayGoOn begin reduction h s m → Answers h k Spent → IsHolding k → Did begin reduction h s k s m
   did_nothing h k s m may answer holding =
-      let same : numbers_of k ≡ numbers_of h = ap numbers_of answer in
+      let same : numbers_of k ≡ numbers_of h = ap numbers_of answer.2 ∙ ap (λ l. l ++ lists_of h.others) answer.1.3 in
       let c = ap (sum_list (λ i. reduction.weight (reduction.piece i))) same in
       record { follows = follows_next h k Spent answer holding; part = may.part ∙ ap (reduction_from reduction begin) (sym same); sum = omega (arith, c) }
 

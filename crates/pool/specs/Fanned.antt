@@ -12,20 +12,25 @@ use Rattle.pool.specs.Totals.{sum_list}
 
 -- the second hand has the first one's seat: it is that hand of each deal that the first is of
 abbrev pub Follows : Holding → Holding → Type 0
-Follows h k = (names : ℕ → (ℕ × ℕ) × Global) (pieces hands number : ℕ) → Belongs names pieces hands number h → Belongs names pieces hands number k
+Follows h k =
+    (names : ℕ → (ℕ × ℕ) × Global) (pieces hands number : ℕ) → Belongs names pieces hands number h
+    → Belongs names pieces hands number k
 
--- the hands and shares came back in their order: each hand has its seat, and its share has grown by the weights of the pieces in its list
+-- the hands and shares came back in their order: each hand has its seat, and its share has grown by the weights of
+-- the pieces in its list
 abbrev pub CameBack : {S : Type 0} → (ℕ → ℕ) → (S → ℕ) → List Holding → List S → List Holding → List S → Type 0
 CameBack weights sum hs ss ks ts =
     (length ks ≡ length hs) × (length ts ≡ length ss)
-    × ((i : ℕ) (h : Holding) (s : _) (k : Holding) (t : _) → get_elem? hs i ≡ some h → get_elem? ss i ≡ some s → get_elem? ks i ≡ some k → get_elem? ts i ≡ some t
+    × ((i : ℕ) (h : Holding) (s : _) (k : Holding) (t : _) → get_elem? hs i ≡ some h → get_elem? ss i ≡ some s
+    → get_elem? ks i ≡ some k → get_elem? ts i ≡ some t
     → Follows h k × (sum t ≡ sum s + sum_list weights (numbers_of k)))
 
 -- the shares came back in their order: each has grown by the weights of the pieces in the list of the hand at its place
 abbrev pub Reported : {S : Type 0} → (ℕ → ℕ) → (S → ℕ) → List S → List Holding → List S → Type 0
 Reported weights sum ss ks ts =
     (length ks ≡ length ss) × (length ts ≡ length ss)
-    × ((i : ℕ) (s : _) (k : Holding) (t : _) → get_elem? ss i ≡ some s → get_elem? ks i ≡ some k → get_elem? ts i ≡ some t → sum t ≡ sum s + sum_list weights (numbers_of k))
+    × ((i : ℕ) (s : _) (k : Holding) (t : _) → get_elem? ss i ≡ some s → get_elem? ks i ≡ some k
+    → get_elem? ts i ≡ some t → sum t ≡ sum s + sum_list weights (numbers_of k))
 
 -- after Whole each hand has answered Spent, and each piece is in the list of one hand, once
 abbrev pub Settles : {P : Type 0} → Outcome P → List Holding → Type 0

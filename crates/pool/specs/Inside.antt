@@ -1,5 +1,5 @@
--- What private calls keep and do. No promise rests on it: what a deal, a hand, a book and a call on all hands promise is said in the words of the other
--- files.
+-- What private calls keep and do. No promise rests on it: what a deal, a hand, a book and a call on all hands promise
+-- is said in the words of the other files.
 pub mod Assembly
 pub mod Done
 pub mod Fanned

@@ -2,8 +2,8 @@
 use Rattle.std.specs.Prelude.{ℕ, ◌+◌, List}
 use Rattle.pool.specs.Totals.{total, sum_below, sum_list}
 
--- A reduction: which meanings parts have; what nothing at all comes to, and what two parts come to together; what each piece comes to;
--- and of a part its weight, which a limit counts, and its load, which bounds the weight
+-- A reduction: which meanings parts have; what nothing at all comes to, and what two parts come to together; what
+-- each piece comes to; and of a part its weight, which a limit counts, and its load, which bounds the weight
 pub record Reduction (M : Type 0) : Type 1 where
   pub fits : M → Type 0
   pub unit : M

@@ -2,6 +2,7 @@
 ghost use Rattle.std.specs.Prelude.{◌≡◌, ℕ, ◌+◌, ◌-◌, ◌^◌, ◌<◌, ◌≤◌, min, IfOk, IfErr, vec_len, All, sum_by, length};
 
 use std::alloc::{AllocError, Global};
+use std::marker::Model;
 use std::sync::ledger::{Blank, Ledger};
 use std::sync::{Mutex, Wait, ledger};
 
@@ -15,10 +16,22 @@ struct Tally<L: Ledger> {
 
 /// The sum of what all workers reported, held at the greatest number of 128 bits. L says which shares are of this book.
 ///
+/// Contracts see nothing of it. It keeps that the ledger has at most 64 parts.
+///
 /// Example: once two workers have reported 3 and 4, the book's number is 7.
 #[derive(Drop)]
 pub struct Book<L: Ledger> {
     tally: Mutex<Tally<L>>,
+}
+
+impl<L: Ledger> Model for Book<L> {
+    ghost use Rattle.std.specs.Prelude.{◌≤◌};
+
+    ghost Value = { Unit {0} };
+
+    ghost view = { λ _. tt };
+
+    ghost invariant = { λ _. L.parts ≤ 64 };
 }
 
 /// What one worker reported to the book of the ledger L.
@@ -132,13 +145,12 @@ impl<L: Ledger> Book<L> {
         self.tally.lock(rt).add(token, weight)
     }
 
-    /// The sum of all shares. It asks for those that were made with the book, each of them, in any order. It waits for
-    /// nobody.
+    /// The sum of all shares. It asks for as many shares as the ledger has parts. `new` makes so many, and none is made
+    /// otherwise, so these are all of them, in whatever order. It waits for nobody.
     ///
     /// Example: where a book has two shares, of the sums 8 and 4, `book.close(shares)` answers 12.
     pub fn close(self, shares: Vec<Share<L>>) -> u128
-        requires all { vec_len shares ≡ L.parts }
-        requires few { vec_len shares ≤ 64 }
+        requires { vec_len shares ≡ L.parts }
         ensures { result ≡ sum_by (λ s. s.sum) shares.items }
     {
         let Book { tally } = self;

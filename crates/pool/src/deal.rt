@@ -1,18 +1,17 @@
 //! Hands, which take numbers from their own deque, and then from those of the others.
 ghost use Rattle.std.specs.Prelude.{◌≢◌, length, ◌%◌, ◌↔◌, All, IsTrue, ◌≡◌, ℕ, List, ◌+◌, ◌-◌, ◌<◌, ◌≤◌, true, false, [], ◌∷◌, ◌++◌, MatchOption, IfOk, IfSome, IfNone};
-ghost use Rattle.pool.specs.Seen.{Seen, Took, with_seen, now_closed};
+ghost use Rattle.pool.specs.Seen.{Seen, Took, FoundEmpty, with_seen};
 ghost use Rattle.pool.specs.Inside.Views.{Looked, IsThief};
 ghost use Rattle.pool.specs.Inside.Hands.{Steals, new_holding};
 ghost use Rattle.pool.specs.Holding.{IsHolding, InOrder};
 ghost use Rattle.pool.specs.Answered.{Answers};
-ghost use Rattle.pool.specs.Inside.Looks.{AccountFor, HoldWhatWasDealt, list_from, Reaches, AllReach, lists_from, KnowsAbove};
-ghost use Rattle.pool.specs.Settled.{AreAll, AllSpent, HaveEachOnce, HaveNoneTwice, HaveThoseGone, IsClosed, numbers_of_all, pieces_of};
-ghost use Rattle.pool.specs.Totals.{once_below};
-ghost use Rattle.pool.specs.Inside.Rule.{times_in_lists, UpTo, IsSeated, Apart, lent_view, giving_view, given_view};
-ghost use Rattle.pool.specs.Dealing.{times};
+ghost use Rattle.pool.specs.Inside.Looks.{AllReach, HaveOneRun, KnowsAbove, OneRun, Reaches, seats_from};
+ghost use Rattle.pool.specs.Settled.{AreAll, AllSpent, AreRun, HaveEachOnce, HaveNonePassedOver, HaveNoneTwice, IsRunAt};
+ghost use Rattle.pool.specs.Rule.{AllBelow};
+ghost use Rattle.pool.specs.Inside.Rule.{Apart, giving_view, given_view};
 ghost use Rattle.crossbeam_deque.specs.Handles.{worker_deque, worker_flavor, worker_view, view as pass_view, IsPassOf};
 
-use crate::protocol::{Dealing, GiveOpen, GiveShut, LendOpen, LendShut, Seal, Taken, Within};
+use crate::protocol::{Dealing, GiveOpen, GiveShut, Lend, Seal, Stolen, Taken, Together};
 use crate::source::CachePad;
 use crate::view::{Packed, Task, View};
 use crossbeam_deque::{Pass, Steal, Stealer, Worker};
@@ -39,7 +38,7 @@ impl Model for LocalQueue {
 
     ghost Value = { Owned };
 
-    ghost view = { λ o. owned_of (worker_deque o.worker) (worker_view o.worker) o.closed };
+    ghost view = { λ o. owned_of (worker_deque o.worker) (worker_view o.worker) };
 
     ghost invariant = { λ o. (worker_flavor o.worker ≡ 0)
         × IsOwner (worker_view o.worker) o.closed };
@@ -68,12 +67,15 @@ impl Model for StealHandle {
 }
 
 impl LocalQueue {
-    /// The first number of the deque. None, where only end marks are left: from then on there is none for good.
+    /// The first number of the deque. None where no number is left, and then none is left for good.
     fn take(&mut self) -> Option<u32>
-        requires { self.old.closed ≡ false }
-        ensures { MatchOption result (self.new ≡ now_closed self.old) (λ x.
-            (s : Seen) × Took self.old.seen x s × (self.new ≡ with_seen self.old s)) }
+        ensures { MatchOption result
+            ((e : Seen) × FoundEmpty self.old.seen e × (self.new ≡ with_seen self.old e))
+            (λ x. (s : Seen) × Took self.old.seen x s × (self.new ≡ with_seen self.old s)) }
     {
+        if self.closed {
+            return None;
+        }
         let Some(packed) = self.worker.pop_as::<Taken>() else {
             unreachable!();
         };
@@ -95,7 +97,7 @@ impl StealHandle {
         if self.closed {
             return None;
         }
-        match self.thief.steal_as::<Taken>(&mut self.pass) {
+        match self.thief.steal_as::<Stolen>(&mut self.pass) {
             Steal::Success(packed) => match packed.task() {
                 Task::Number(x) => Some(x),
                 Task::End => {
@@ -122,7 +124,7 @@ pub enum Next {
 }
 
 /// One worker's end of a deal: its own deque, and its way into the deques of the other hands.
-/// Contracts see what the hand was given from each, in order.
+/// Contracts see what the hand knows of each, and what it was given from it, in order.
 ///
 /// Example: where 4 pieces were dealt to 2 hands and hand 0 alone is asked, it answers the pieces 0 and 2, which are
 /// its own, and then 1, which it steals.
@@ -188,18 +190,6 @@ fn steal(others: &mut Vec<StealHandle>) -> Option<u32>
     None
 }
 
-/// The first of its own deque, unless it was found to have none before.
-fn take_own(own: &mut LocalQueue) -> Option<u32>
-    ensures none { IfNone result (own.new ≡ now_closed own.old) }
-    ensures some { IfSome result (λ x. (s : Seen) × Took own.old.seen x s
-        × (own.new ≡ with_seen own.old s) × (own.old.closed ≡ false)) }
-{
-    if own.closed {
-        return None;
-    }
-    own.take()
-}
-
 impl Hand {
     /// A piece: the first of the hand's own deque, or, once that is empty, the first of another's. It tries each other
     /// deque once, from the next hand's on and round. It takes no lock, waits for nobody, and returns.
@@ -211,7 +201,7 @@ impl Hand {
         ensures order { InOrder self.new }
         ensures memory { result ≢ Next.Memory }
     {
-        if let Some(x) = take_own(&mut self.local) {
+        if let Some(x) = self.local.take() {
             return Next::Piece(x);
         }
         if let Some(x) = steal(&mut self.others) {
@@ -223,7 +213,8 @@ impl Hand {
 }
 
 impl LocalQueue {
-    /// The owner looks at what all other hands have of the deque, whether or not numbers are left there: with its own list, they hold no number more often than it was dealt, and each as often once no number is left.
+    /// The owner of the deque looks at what all other hands know of it: those before the owner in the deal, and those
+    /// after it. One schedule goes on from that, and from what the owner knows.
     fn compare_with(&mut self, before: &mut [Hand], after: &mut [Hand])
         requires few { length before.old + length after.old < 64 }
         requires count { self.old.made ≡ length before.old + length after.old + 1 }
@@ -232,7 +223,7 @@ impl LocalQueue {
         requires before { AllReach self.old.seen.deque self.old.seen.numbers
             (length before.old) before.old }
         ensures same { (self.new ≡ self.old) × (before.new ≡ before.old) × (after.new ≡ after.old) }
-        ensures apart { HoldWhatWasDealt self.old before.old after.old }
+        ensures run { HaveOneRun self.old before.old after.old }
     {
         let place = before.len() + after.len();
         compare(&mut self.worker, after, before, place);
@@ -263,21 +254,19 @@ impl Hand {
         requires before { AllReach self.old.own.seen.deque self.old.own.seen.numbers
             (length before.old) before.old }
         ensures same { (self.new ≡ self.old) × (before.new ≡ before.old) × (after.new ≡ after.old) }
-        ensures apart { HoldWhatWasDealt self.old.own before.old after.old }
+        ensures run { HaveOneRun self.old.own before.old after.old }
     {
         self.local.compare_with(before, after);
     }
 }
 
-/// No piece of the deque of the hand d is in the lists more than once, and each is in one where that hand knows that none
-/// is left there.
+/// One schedule goes on from what each hand knows of the deque of the hand d, and gives each what it has of it.
 fn compare_at(hands: &mut [Hand], d: usize)
     requires deal { AreAll hands.old }
     requires low { d < length hands.old }
     ensures same { hands.new ≡ hands.old }
-    ensures apart { (x : ℕ) → x % length hands.old ≡ d
-        → UpTo (IsClosed d hands.old) (times x (numbers_of_all hands.old))
-        (once_below x (pieces_of hands.old)) }
+    ensures run { (schedule : List ℕ) × AllBelow (length hands.old) schedule
+        × IsRunAt d schedule hands.old }
 {
     let (before, rest) = hands.split_at_mut(d);
     let Some((mine, after)) = rest.split_first_mut() else {
@@ -286,14 +275,11 @@ fn compare_at(hands: &mut [Hand], d: usize)
     mine.compare_with(before, after);
 }
 
-/// The hands of a deal have no piece twice, and none that the deal does not have; and they have each piece that was dealt
-/// to a hand that knows that none is left in its deque. It takes no memory.
+/// One schedule of the deal goes on from what each hand knows, and gives each hand what it has. It takes no memory.
 pub fn compare_all(hands: &mut [Hand])
     requires deal { AreAll hands.old }
     ensures same { hands.new ≡ hands.old }
-    ensures apart { (x : ℕ)
-        → UpTo (IsClosed (x % length hands.old) hands.old) (times x (numbers_of_all hands.old))
-        (once_below x (pieces_of hands.old)) }
+    ensures run { AreRun hands.old }
 {
     for d in 0..hands.len() {
         compare_at(hands, d);
@@ -312,8 +298,9 @@ fn are_all_spent(hands: &[Hand]) -> bool
     true
 }
 
-/// Whether each hand of the deal has answered Spent. Then what they were given, joined, is each piece exactly once; and
-/// whatever it answers, no piece is in two hands. It takes no memory, and leaves the hands as they were. It asks for all hands of one deal, from hand 0 on.
+/// Whether each hand of the deal has answered Spent. Then what they were given, joined, is each piece exactly once;
+/// and whatever it answers, one schedule gave the hands what they have. It takes no memory, and leaves the hands as
+/// they were. It asks for all hands of one deal, from hand 0 on.
 ///
 /// Example: of a new deal it answers `false`; of one without a piece it answers `true` once each hand was asked.
 pub fn settled(hands: &mut [Hand]) -> bool
@@ -321,12 +308,23 @@ pub fn settled(hands: &mut [Hand]) -> bool
     ensures same { hands.new ≡ hands.old }
     ensures answer { IsTrue result ↔ AllSpent hands.old }
     ensures whole { IsTrue result → HaveEachOnce hands.old }
+    ensures run { AreRun hands.old }
     ensures once { HaveNoneTwice hands.old }
-    ensures gone { HaveThoseGone hands.old }
 {
     compare_all(hands);
     are_all_spent(hands)
 }
+
+/// What the hands of a deal have, where one schedule gives it to them: no piece is in two lists, none is passed over,
+/// and where each hand has answered Spent, each piece is in one list, once.
+///
+/// Example: of a deal of 8 pieces to 2 hands, where 4 is in some list, so are 0 and 2.
+pub fn run_law()
+    ensures once { (hands : _) → AreAll hands → AreRun hands → HaveNoneTwice hands }
+    ensures front { (hands : _) → AreAll hands → AreRun hands → HaveNonePassedOver hands }
+    ensures whole { (hands : _) → AreAll hands → AreRun hands → AllSpent hands
+        → HaveEachOnce hands }
+{}
 
 /// A hand that has taken nothing.
 pub fn first_hand(
@@ -348,25 +346,6 @@ pub fn first_hand(
         others,
         spent: false,
     }
-}
-
-/// The owner takes in a seat of its deque, behind its own.
-fn take_in(worker: &mut Deque, pass: Pass<Packed, View, Global>, closed: bool)
-    requires pass { IsPassOf (worker_deque worker.old) pass × IsThief (pass_view pass) closed }
-    requires owner { ((worker_view worker.old).filling ≡ false)
-        × IsSeated (worker_view worker.old).known }
-    ensures deque { (worker_deque worker.new ≡ worker_deque worker.old)
-        × (worker_flavor worker.new ≡ worker_flavor worker.old) }
-    ensures lent { worker_view worker.new
-        ≡ lent_view (worker_view worker.new).closed (worker_view worker.old) (pass_view pass) }
-    ensures closed { (closed ≡ true → (worker_view worker.new).closed ≡ true)
-        × ((worker_view worker.old).closed ≡ true → (worker_view worker.new).closed ≡ true) }
-{
-    if closed {
-        worker.absorb::<LendShut>(pass);
-        return;
-    }
-    worker.absorb::<LendOpen>(pass);
 }
 
 /// The second hand that the owner knows has its seat again.
@@ -405,21 +384,23 @@ impl StealHandle {
         ensures deque { (worker_deque worker.new ≡ worker_deque worker.old)
             × (worker_flavor worker.new ≡ worker_flavor worker.old) }
         ensures looked { Looked (worker_view worker.old) (worker_view worker.new) }
-        ensures within { AccountFor (worker_view worker.old) (λ x. times x self.old.list
-            + (times_in_lists x (lists_from (place - 1) others.old)
-            + times_in_lists x (lists_from (length more.old) more.old))) }
+        ensures run { OneRun (worker_view worker.old)
+            ((place, self.old.history) ∷ seats_from (place - 1) others.old)
+            (seats_from (length more.old) more.old) }
     {
         let closed = self.closed;
         let blank = worker.another::<Seal>();
         let pass = mem::replace(&mut self.pass, blank);
-        take_in(worker, pass, closed);
+        worker.absorb::<Lend>(pass);
         compare(worker, others, more, place - 1);
         let back = give_back(worker, closed);
         drop(mem::replace(&mut self.pass, back));
     }
 }
 
-/// The owner of the deque takes in the seats of these hands, of which the first has this place and the others those below, learns that their lists hold no number more often than it was dealt, and each as often once no number is left, and gives the seats back.
+/// The owner of the deque takes in the seats of these hands and of `more`, learns that one schedule goes on from what
+/// all know, and gives the seats back. The first of these hands has its seat at this place of its round, each further
+/// one a place lower, and those of `more` lower still.
 #[cycle(compare)]
 fn compare(worker: &mut Deque, hands: &mut [Hand], more: &mut [Hand], place: usize)
     requires place { (place ≡ length hands.old + length more.old) × (place < 64) }
@@ -432,9 +413,8 @@ fn compare(worker: &mut Deque, hands: &mut [Hand], more: &mut [Hand], place: usi
     ensures deque { (worker_deque worker.new ≡ worker_deque worker.old)
         × (worker_flavor worker.new ≡ worker_flavor worker.old) }
     ensures looked { Looked (worker_view worker.old) (worker_view worker.new) }
-    ensures within { AccountFor (worker_view worker.old)
-        (λ x. times_in_lists x (lists_from place hands.old)
-        + times_in_lists x (lists_from (length more.old) more.old)) }
+    ensures run { OneRun (worker_view worker.old) (seats_from place hands.old)
+        (seats_from (length more.old) more.old) }
 {
     if let Some((hand, rest)) = hands.split_first_mut() {
         let handle = &mut hand.others[place - 1];
@@ -445,5 +425,5 @@ fn compare(worker: &mut Deque, hands: &mut [Hand], more: &mut [Hand], place: usi
         compare(worker, more, &mut [], place);
         return;
     }
-    worker.len_as::<Within>();
+    worker.len_as::<Together>();
 }

@@ -230,11 +230,11 @@ impl Deal {
     }
 }
 
-/// Between any two steps of any schedule each piece of a deal is in just one deque or just one hand's list, once. A step,
-/// which is said by a deque and a hand, moves the deque's first piece to the end of what the hand has of it.
+/// Between any two steps of any schedule each piece of a deal is in just one deque or just one hand's list, once. A
+/// step, which is said by a deque and a hand, moves the deque's first piece to the end of what the hand has of it.
 ///
-/// Example: of a deal of 4 pieces to 2 hands, after hand 1 took from deque 0 and hand 0 from deque 1, the deques have the
-/// pieces 2 and 3, and the hands 1 and 0.
+/// Example: of a deal of 4 pieces to 2 hands, after hand 1 took from deque 0 and hand 0 from deque 1, the deques have
+/// the pieces 2 and 3, and the hands 1 and 0.
 pub fn dealing_law()
     ensures { (hands pieces : ℕ) (schedule : List (ℕ × ℕ)) → 0 < hands → AreStepsOf hands schedule
         → IsEachInOnePlace hands pieces (deal_after schedule (deal_begin hands pieces)) }

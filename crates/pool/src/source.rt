@@ -26,7 +26,7 @@ pub struct Filling {
 
 impl Model for Filling {
     ghost use Rattle.std.specs.Prelude.{◌≡◌, ℕ, List, true, false, [], ◌∷◌};
-    ghost use Rattle.pool.specs.Inside.Rule.{view_of};
+    ghost use Rattle.pool.specs.Rule.{view_of};
     ghost use Rattle.crossbeam_deque.specs.Handles.{worker_deque, worker_view, worker_flavor};
 
     ghost Value = { List ℕ };
@@ -35,7 +35,7 @@ impl Model for Filling {
 
     ghost invariant = { λ s. (worker_flavor s.worker ≡ 0)
         × (worker_view s.worker
-        ≡ view_of true true 0 1 (worker_view s.worker).numbers ((0, []) ∷ []) false) };
+        ≡ view_of true true 0 1 (worker_view s.worker).numbers ((0, []) ∷ [])) };
 }
 
 #[derive(Drop)]
@@ -47,7 +47,7 @@ pub struct Source {
 
 impl Model for Source {
     ghost use Rattle.std.specs.Prelude.{◌≡◌, ◌-◌, ◌+◌, ◌<◌, ◌≤◌, true, false, [], ◌∷◌};
-    ghost use Rattle.pool.specs.Inside.Rule.{view_of};
+    ghost use Rattle.pool.specs.Rule.{view_of};
     ghost use Rattle.pool.specs.Inside.Views.{Offer, offer_of};
     ghost use Rattle.crossbeam_deque.specs.Handles.{worker_deque, worker_view, worker_flavor};
 
@@ -57,7 +57,7 @@ impl Model for Source {
 
     ghost invariant = { λ s. (worker_flavor s.worker ≡ 0)
         × (worker_view s.worker ≡ view_of false true (s.hands + 1 - (worker_view s.worker).made)
-        (worker_view s.worker).made (worker_view s.worker).numbers ((0, []) ∷ []) false)
+        (worker_view s.worker).made (worker_view s.worker).numbers ((0, []) ∷ []))
         × ((worker_view s.worker).made ≤ s.hands) };
 }
 

@@ -1,13 +1,14 @@
 //! The hands of a deal, each on a thread of its own.
-ghost use Rattle.std.specs.Prelude.{◌≡◌, ℕ, ◌+◌, ◌-◌, ◌^◌, ◌<◌, ◌≤◌, ◌⊎◌, ◌++◌, ◌∷◌, [], All, IfOk, IfErr, IfSome, IfNone, IsOkAnd, MatchResult, OnOk, vec_len, length, map};
+ghost use Rattle.std.specs.Prelude.{◌≡◌, ℕ, ◌+◌, ◌-◌, ◌^◌, ◌<◌, ◌≤◌, ◌⊎◌, ◌++◌, ◌∷◌, [], All, IfOk, IfErr, IsOkAnd, MatchResult, vec_len, map, min};
 ghost use Rattle.pool.specs.Totals.{once_below};
 ghost use Rattle.pool.specs.Reduction.{load_below, load_onto, piece_weight, weight_with};
 ghost use Rattle.pool.specs.Inside.Totals.{combination_of};
 ghost use Rattle.pool.specs.Outcomes.{DecidesBelow, DecidesOf, DecidesOnto};
 ghost use Rattle.pool.specs.Dealing.{times};
 ghost use Rattle.pool.specs.Inside.Rule.{UpTo};
-ghost use Rattle.pool.specs.Settled.{AreAll, AllSpent, HaveNoneTwice, numbers_of_all, pieces_of};
-ghost use Rattle.pool.specs.Inside.Fanned.{AreReady, HaveBegunAndResumed, HaveResumed, IsLonger, MayResumeAll, NeedNoThread};
+ghost use Rattle.pool.specs.Settled.{AreAll, AllSpent, AreRun, HaveNoneTwice, numbers_of_all, pieces_of};
+ghost use Rattle.pool.specs.Inside.Done.{hands_of, parts_of, sums_of};
+ghost use Rattle.pool.specs.Inside.Fanned.{AreReady, HaveBegunAndResumed, HaveResumed, MayResumeAll, NeedNoThread};
 ghost use Rattle.pool.specs.Fanned.{CameBack, Settles, Outweighs, IsAbove, Reported};
 ghost use Rattle.pool.specs.Assembly.{IsNewDeal};
 ghost use mathlib.Core.Option.{some};
@@ -26,91 +27,40 @@ use std::sync::ledger::{Blank, Ledger};
 use std::thread;
 use std::thread::{Scope, Threads};
 
-/// What all workers have, in the order of their hands.
-#[derive(Drop)]
-pub struct Gathered<P, L: Ledger> {
-    pub hands: Vec<Hand>,
-    pub shares: Vec<Share<L>>,
-    pub parts: Vec<P>,
-}
-
-/// What the last worker has, which is taken from it.
-fn pop_done<P, L: Ledger>(gathered: &mut Gathered<P, L>) -> Option<Done<P, L>>
-    requires count { (length gathered.old.hands.items ≡ length gathered.old.shares.items)
-        × (length gathered.old.hands.items ≡ length gathered.old.parts.items) }
-    ensures none { IfNone result ((gathered.old.hands.items ≡ []) × (gathered.old.shares.items ≡ [])
-        × (gathered.old.parts.items ≡ [])) }
-    ensures none_left { IfNone result ((gathered.new.hands.items ≡ [])
-        × (gathered.new.shares.items ≡ []) × (gathered.new.parts.items ≡ [])) }
-    ensures hands { IfSome result (λ d.
-        gathered.old.hands.items ≡ gathered.new.hands.items ++ d.hand ∷ []) }
-    ensures shares { IfSome result (λ d.
-        gathered.old.shares.items ≡ gathered.new.shares.items ++ d.share ∷ []) }
-    ensures parts { IfSome result (λ d.
-        gathered.old.parts.items ≡ gathered.new.parts.items ++ d.part ∷ []) }
-{
-    let Some(hand) = gathered.hands.pop() else {
-        return None;
-    };
-    let Some(share) = gathered.shares.pop() else {
-        unreachable!();
-    };
-    let Some(part) = gathered.parts.pop() else {
-        unreachable!();
-    };
-    Some(Done { hand, share, part })
-}
-
-/// What one more worker gave back, behind what the others did.
-fn push_done<P: Drop, L: Ledger>(
-    all: &mut Gathered<P, L>,
-    done: Done<P, L>,
-) -> Result<(), AllocError>
-    ensures hands { OnOk result (all.new.hands.items ≡ all.old.hands.items ++ done.hand ∷ []) }
-    ensures shares { OnOk result (all.new.shares.items ≡ all.old.shares.items ++ done.share ∷ []) }
-    ensures parts { OnOk result (all.new.parts.items ≡ all.old.parts.items ++ done.part ∷ []) }
-{
-    let Done { hand, share, part } = done;
-    put_last(&mut all.hands, hand)?;
-    put_last(&mut all.shares, share)?;
-    put_last(&mut all.parts, part)
-}
-
-/// What the others gave back and one more worker's, unless one of them met a fault: that of the others comes first.
+/// What the others gave back, and behind it what one more worker did, unless one of them met a fault: that of the
+/// others comes first.
 fn add_done<P: Drop, L: Ledger>(
-    others: Result<Gathered<P, L>, PoolFault>,
+    others: Result<Vec<Done<P, L>>, PoolFault>,
     done: Result<Done<P, L>, AllocError>,
-) -> Result<Gathered<P, L>, PoolFault>
-    ensures more { IfOk result (λ g. IsOkAnd others (λ o. IsOkAnd done (λ d.
-        IsLonger g.hands.items g.shares.items g.parts.items
-        o.hands.items o.shares.items o.parts.items d.hand d.share d.part))) }
+) -> Result<Vec<Done<P, L>>, PoolFault>
+    ensures more { IfOk result (λ all. IsOkAnd others (λ os. IsOkAnd done (λ d.
+        all.items ≡ os.items ++ d ∷ []))) }
     ensures fault { IfErr result (λ e.
         MatchResult others (λ _. e ≡ PoolFault.OutOfMemory) (λ f. e ≡ f)) }
 {
     let mut all = others?;
-    push_done(&mut all, done?)?;
+    put_last(&mut all, done?)?;
     Ok(all)
 }
 
-/// Each hand goes on from its part until it is spent or the book is above the crew's `stop`: the first on the calling
-/// thread, each other on its own, and where there is no piece all on the calling one.
+/// Each worker goes on until its hand is spent or the book is above the crew's `stop`: the first on the calling thread,
+/// each other on its own, and where there is no piece all on the calling one.
 fn spread<'s, E, W: Work + Sync, L: Ledger + Send + Sync, R: Threads + Wait + Sync>(
     scope: &Scope<'s, E>,
     crew: &'s Crew<'s, W, L, R>,
-    ready: Gathered<W::Part, L>,
-) -> Result<Gathered<W::Part, L>, PoolFault>
-    requires under_way { MayResumeAll (W.reduction crew.now.work.now) (λ s. s.sum) W.meaning
-        ready.hands.items ready.shares.items ready.parts.items }
-    ensures did { IfOk result (λ g. HaveResumed (W.reduction crew.now.work.now) (λ s. s.sum)
-        W.meaning ready.hands.items ready.shares.items ready.parts.items
-        g.hands.items g.shares.items g.parts.items) }
-    ensures alone { NeedNoThread ready.hands.items → IfErr result (λ e. e ≡ PoolFault.OutOfMemory) }
+    ready: Vec<Done<W::Part, L>>,
+) -> Result<Vec<Done<W::Part, L>>, PoolFault>
+    requires under_way { MayResumeAll (W.reduction crew.now.work.now) W.meaning ready.items }
+    ensures did { IfOk result (λ all.
+        HaveResumed (W.reduction crew.now.work.now) W.meaning ready.items all.items) }
+    ensures alone { NeedNoThread (hands_of ready.items)
+        → IfErr result (λ e. e ≡ PoolFault.OutOfMemory) }
 {
     let mut ready = ready;
-    let Some(done) = pop_done(&mut ready) else {
+    let Some(done) = ready.pop() else {
         return Ok(ready);
     };
-    if ready.hands.is_empty() || done.hand.pieces() == 0 {
+    if ready.is_empty() || done.pieces() == 0 {
         let others = spread(scope, crew, ready);
         return add_done(others, go_on(crew, done));
     }
@@ -124,67 +74,62 @@ fn spread<'s, E, W: Work + Sync, L: Ledger + Send + Sync, R: Threads + Wait + Sy
 /// As `spread`, with a scope of its own.
 fn spread_in_scope<W: Work + Sync, L: Ledger + Send + Sync, R: Threads + Wait + Sync>(
     crew: &Crew<'_, W, L, R>,
-    ready: Gathered<W::Part, L>,
-) -> Result<Gathered<W::Part, L>, PoolFault>
-    requires under_way { MayResumeAll (W.reduction crew.now.work.now) (λ s. s.sum) W.meaning
-        ready.hands.items ready.shares.items ready.parts.items }
-    ensures did { IfOk result (λ g. HaveResumed (W.reduction crew.now.work.now) (λ s. s.sum)
-        W.meaning ready.hands.items ready.shares.items ready.parts.items
-        g.hands.items g.shares.items g.parts.items) }
-    ensures alone { NeedNoThread ready.hands.items → IfErr result (λ e. e ≡ PoolFault.OutOfMemory) }
+    ready: Vec<Done<W::Part, L>>,
+) -> Result<Vec<Done<W::Part, L>>, PoolFault>
+    requires under_way { MayResumeAll (W.reduction crew.now.work.now) W.meaning ready.items }
+    ensures did { IfOk result (λ all.
+        HaveResumed (W.reduction crew.now.work.now) W.meaning ready.items all.items) }
+    ensures alone { NeedNoThread (hands_of ready.items)
+        → IfErr result (λ e. e ≡ PoolFault.OutOfMemory) }
 {
     thread::scope(
         thread::scope_env(),
         crew.rt,
-        move |scope| -> Result<Gathered<W::Part, L>, PoolFault>
-            requires under_way { MayResumeAll (W.reduction crew.now.work.now) (λ s. s.sum) W.meaning
-                ready.hands.items ready.shares.items ready.parts.items }
-            ensures did { IfOk result (λ g. HaveResumed (W.reduction crew.entry.now.work.now)
-                (λ s. s.sum) W.meaning ready.hands.items ready.shares.items ready.parts.items
-                g.hands.items g.shares.items g.parts.items) }
-            ensures alone { NeedNoThread ready.hands.items
+        move |scope| -> Result<Vec<Done<W::Part, L>>, PoolFault>
+            requires under_way { MayResumeAll (W.reduction crew.now.work.now) W.meaning
+                ready.items }
+            ensures did { IfOk result (λ all.
+                HaveResumed (W.reduction crew.entry.now.work.now) W.meaning ready.items all.items) }
+            ensures alone { NeedNoThread (hands_of ready.items)
                 → IfErr result (λ e. e ≡ PoolFault.OutOfMemory) }
         { spread(scope, crew, ready) },
     )
 }
 
-/// The weight of all parts, combined.
-fn weigh<W: Work>(work: &W, parts: &Vec<W::Part>) -> u64
-    requires parts { All (λ p. (W.reduction work.now).fits (W.meaning p)) parts.now.items }
-    requires room { (W.reduction work.now).load
-        (combination_of (W.reduction work.now) (map W.meaning parts.now.items)) < 2 ^ 63 }
-    ensures { result ≡ (W.reduction work.now).weight
-        (combination_of (W.reduction work.now) (map W.meaning parts.now.items)) }
-{
-    let mut sum = 0;
-    for part in parts {
-        sum += work.weight(part);
-    }
-    sum
-}
-
-/// Each hand goes on from its part until it is spent, on the calling thread. No number of the book stops it.
+/// Each worker goes on until its hand is spent, on the calling thread. No number of the book stops it.
 fn finish_all<W: Work, L: Ledger, R: Wait>(
     crew: &Crew<'_, W, L, R>,
-    gathered: Gathered<W::Part, L>,
-) -> Result<Gathered<W::Part, L>, PoolFault>
+    gathered: Vec<Done<W::Part, L>>,
+) -> Result<Vec<Done<W::Part, L>>, PoolFault>
     requires never { crew.now.stop ≡ 2 ^ 128 - 1 }
-    requires under_way { MayResumeAll (W.reduction crew.now.work.now) (λ s. s.sum) W.meaning
-        gathered.hands.items gathered.shares.items gathered.parts.items }
-    ensures did { IfOk result (λ g. HaveResumed (W.reduction crew.now.work.now) (λ s. s.sum)
-        W.meaning gathered.hands.items gathered.shares.items gathered.parts.items
-        g.hands.items g.shares.items g.parts.items) }
-    ensures spent { IfOk result (λ g. AllSpent g.hands.items) }
+    requires under_way { MayResumeAll (W.reduction crew.now.work.now) W.meaning gathered.items }
+    ensures did { IfOk result (λ all.
+        HaveResumed (W.reduction crew.now.work.now) W.meaning gathered.items all.items) }
+    ensures spent { IfOk result (λ all. AllSpent (hands_of all.items)) }
     ensures fault { IfErr result (λ e. e ≡ PoolFault.OutOfMemory) }
 {
     let mut gathered = gathered;
-    let Some(done) = pop_done(&mut gathered) else {
+    let Some(done) = gathered.pop() else {
         return Ok(gathered);
     };
     match finish_all(crew, gathered) {
         Ok(others) => add_done(Ok(others), go_on(crew, done)),
         Err(fault) => Err(fault),
     }
+}
+
+/// What the parts of all workers weigh together, held at the greatest number.
+fn weigh<W: Work, L: Ledger>(work: &W, workers: &Vec<Done<W::Part, L>>) -> u64
+    requires { All (λ p. (W.reduction work.now).fits (W.meaning p)
+        × ((W.reduction work.now).load (W.meaning p) < 2 ^ 63)) (parts_of workers.now.items) }
+    ensures { result ≡ min ((W.reduction work.now).weight (combination_of (W.reduction work.now)
+        (map W.meaning (parts_of workers.now.items)))) (2 ^ 64 - 1) }
+{
+    let mut sum: u64 = 0;
+    for worker in workers {
+        sum = sum.saturating_add(work.weight(&worker.part));
+    }
+    sum
 }
 
 /// All parts as one.
@@ -238,13 +183,63 @@ fn new_hands(alloc: Global, pieces: u32, hands: usize) -> Result<Vec<Hand>, Allo
     Ok(deal.into_hands())
 }
 
+/// Workers with these hands, shares and parts, in their order.
+fn workers_from<P: Drop, L: Ledger>(
+    alloc: Global,
+    hands: Vec<Hand>,
+    shares: Vec<Share<L>>,
+    parts: Vec<P>,
+) -> Result<Vec<Done<P, L>>, AllocError>
+    requires shares { vec_len shares ≡ vec_len hands }
+    requires parts { vec_len parts ≡ vec_len hands }
+    ensures hands { IfOk result (λ ws. hands_of ws.items ≡ hands.items) }
+    ensures sums { IfOk result (λ ws. sums_of ws.items ≡ map (λ s. s.sum) shares.items) }
+    ensures parts { IfOk result (λ ws. parts_of ws.items ≡ parts.items) }
+{
+    let mut rest_shares = shares.into_iter();
+    let mut rest_parts = parts.into_iter();
+    let mut workers = Vec::new(alloc);
+    for hand in hands {
+        let Some(share) = rest_shares.next() else {
+            unreachable!();
+        };
+        let Some(part) = rest_parts.next() else {
+            unreachable!();
+        };
+        put_last(&mut workers, Done { hand, share, part })?;
+    }
+    Ok(workers)
+}
+
+/// The hands, the shares and the parts of these workers, each in their order.
+fn into_lists<P: Drop, L: Ledger>(
+    alloc: Global,
+    workers: Vec<Done<P, L>>,
+) -> Result<(Vec<Hand>, Vec<Share<L>>, Vec<P>), AllocError>
+    ensures hands { IfOk result (λ r. r.0.items ≡ hands_of workers.items) }
+    ensures sums { IfOk result (λ r. map (λ s. s.sum) r.1.items ≡ sums_of workers.items) }
+    ensures parts { IfOk result (λ r. r.2.items ≡ parts_of workers.items) }
+{
+    let mut hands = Vec::new(alloc);
+    let mut shares = Vec::new(alloc);
+    let mut parts = Vec::new(alloc);
+    for worker in workers {
+        let Done { hand, share, part } = worker;
+        put_last(&mut hands, hand)?;
+        put_last(&mut shares, share)?;
+        put_last(&mut parts, part)?;
+    }
+    Ok((hands, shares, parts))
+}
+
 /// The hands of a deal have no piece twice, and where all are spent, they have each piece.
 fn keep_apart(hands: &mut Vec<Hand>)
     requires { AreAll hands.old.items }
     ensures same { hands.new.items ≡ hands.old.items }
+    ensures run { AreRun hands.new.items }
     ensures apart { (x : ℕ)
-        → UpTo (AllSpent hands.old.items) (times x (numbers_of_all hands.old.items))
-        (once_below x (pieces_of hands.old.items)) }
+        → UpTo (AllSpent hands.new.items) (times x (numbers_of_all hands.new.items))
+        (once_below x (pieces_of hands.new.items)) }
 {
     compare_all(hands.as_mut_slice());
 }
@@ -254,88 +249,85 @@ fn keep_apart(hands: &mut Vec<Hand>)
 fn work_through<W: Work + Sync, L: Ledger + Send + Sync, R: Threads + Wait + Sync>(
     crew: Crew<'_, W, L, R>,
     limit: u64,
-    ready: Gathered<W::Part, L>,
-) -> Result<Gathered<W::Part, L>, PoolFault>
-    requires ready { AreReady (W.reduction crew.work.now) (λ s. s.sum) W.meaning
-        ready.hands.items ready.shares.items ready.parts.items }
-    ensures did { IfOk result (λ g.
-        HaveBegunAndResumed (W.reduction crew.entry.work.now) (λ s. s.sum) W.meaning
-        ready.hands.items ready.shares.items ready.parts.items
-        g.hands.items g.shares.items g.parts.items) }
-    ensures spent { IfOk result (λ g. AllSpent g.hands.items
-        ⊎ (limit < (W.reduction crew.entry.work.now).weight
-        (combination_of (W.reduction crew.entry.work.now) (map W.meaning g.parts.items)))) }
-    ensures alone { NeedNoThread ready.hands.items → IfErr result (λ e. e ≡ PoolFault.OutOfMemory) }
+    ready: Vec<Done<W::Part, L>>,
+) -> Result<Vec<Done<W::Part, L>>, PoolFault>
+    requires ready { AreReady (W.reduction crew.work.now) W.meaning ready.items }
+    ensures did { IfOk result (λ all.
+        HaveBegunAndResumed (W.reduction crew.entry.work.now) W.meaning ready.items all.items) }
+    ensures spent { IfOk result (λ all. AllSpent (hands_of all.items)
+        ⊎ (limit < (W.reduction crew.entry.work.now).weight (combination_of
+        (W.reduction crew.entry.work.now) (map W.meaning (parts_of all.items))))) }
+    ensures alone { NeedNoThread (hands_of ready.items)
+        → IfErr result (λ e. e ≡ PoolFault.OutOfMemory) }
 {
     let mut crew = crew;
-    let mut gathered = spread_in_scope(&crew, ready)?;
-    keep_apart(&mut gathered.hands);
-    if weigh(crew.work, &gathered.parts) > limit {
+    let gathered = spread_in_scope(&crew, ready)?;
+    if weigh(crew.work, &gathered) > limit {
         return Ok(gathered);
     }
     crew.stop = u128::MAX;
     finish_all(&crew, gathered)
 }
 
-/// What comes of all parts: all of them as one, or `Over` where they weigh more than `limit`.
-fn conclude<W: Work, L: Ledger>(
+/// What comes of parts that weigh so much together: all of them as one, or `Over` where that is more than `limit`.
+fn conclude<W: Work>(
     work: &W,
+    weight: u64,
     limit: u64,
-    finished: Gathered<W::Part, L>,
-) -> Result<(Outcome<W::Part>, Vec<Hand>, Vec<Share<L>>), AllocError>
-    requires parts { All (λ p. (W.reduction work.now).fits (W.meaning p)) finished.parts.items }
+    parts: Vec<W::Part>,
+) -> Result<Outcome<W::Part>, AllocError>
+    requires weight { weight ≡ (W.reduction work.now).weight
+        (combination_of (W.reduction work.now) (map W.meaning parts.items)) }
+    requires parts { All (λ p. (W.reduction work.now).fits (W.meaning p)) parts.items }
     requires room { (W.reduction work.now).load
-        (combination_of (W.reduction work.now) (map W.meaning finished.parts.items)) < 2 ^ 63 }
-    ensures decided { IfOk result (λ r. DecidesOf (W.reduction work.now) W.meaning
-        (combination_of (W.reduction work.now) (map W.meaning finished.parts.items)) limit r.0) }
-    ensures same { IfOk result (λ r. (r.1 ≡ finished.hands) × (r.2 ≡ finished.shares)) }
+        (combination_of (W.reduction work.now) (map W.meaning parts.items)) < 2 ^ 63 }
+    ensures { IfOk result (DecidesOf (W.reduction work.now) W.meaning
+        (combination_of (W.reduction work.now) (map W.meaning parts.items)) limit) }
 {
-    let Gathered {
-        hands,
-        shares,
-        parts,
-    } = finished;
-    if weigh(work, &parts) > limit {
-        return Ok((Outcome::Over, hands, shares));
+    if weight > limit {
+        return Ok(Outcome::Over);
     }
     let part = combine_all(work, parts)?;
-    Ok((Outcome::Whole(part), hands, shares))
+    Ok(Outcome::Whole(part))
 }
 
-/// The hands of a new deal work, as `work_through` says, and what comes of it is decided: the parts that they begin with
-/// and all pieces, combined, or `Over`. The hands and shares come back in their order.
+/// The hands of a new deal work, as `work_through` says, and what comes of it is decided: the parts that they begin
+/// with and all pieces, combined, or `Over`. The hands and shares come back in their order.
 fn fan_ready<W: Work + Sync, L: Ledger + Send + Sync, R: Threads + Wait + Sync>(
     crew: Crew<'_, W, L, R>,
     limit: u64,
-    ready: Gathered<W::Part, L>,
+    ready: Vec<Done<W::Part, L>>,
 ) -> Result<(Outcome<W::Part>, Vec<Hand>, Vec<Share<L>>), PoolFault>
-    requires ready { AreReady (W.reduction crew.work.now) (λ s. s.sum) W.meaning
-        ready.hands.items ready.shares.items ready.parts.items }
+    requires ready { AreReady (W.reduction crew.work.now) W.meaning ready.items }
     ensures decided { IfOk result (λ r. DecidesOnto (W.reduction crew.entry.work.now) W.meaning
-        (combination_of (W.reduction crew.entry.work.now) (map W.meaning ready.parts.items))
-        (pieces_of ready.hands.items) limit r.0) }
+        (combination_of (W.reduction crew.entry.work.now) (map W.meaning (parts_of ready.items)))
+        (pieces_of (hands_of ready.items)) limit r.0) }
     ensures deal { IfOk result (λ r. AreAll r.1.items
-        × (pieces_of r.1.items ≡ pieces_of ready.hands.items)) }
+        × (pieces_of r.1.items ≡ pieces_of (hands_of ready.items))) }
     ensures back { IfOk result (λ r.
-        CameBack (piece_weight (W.reduction crew.entry.work.now)) (λ s. s.sum)
-        ready.hands.items ready.shares.items r.1.items r.2.items) }
+        CameBack (piece_weight (W.reduction crew.entry.work.now)) (λ n. n)
+        (hands_of ready.items) (sums_of ready.items) r.1.items (map (λ s. s.sum) r.2.items)) }
+    ensures run { IfOk result (λ r. AreRun r.1.items) }
     ensures once { IfOk result (λ r. HaveNoneTwice r.1.items) }
     ensures settled { IfOk result (λ r. Settles r.0 r.1.items) }
     ensures over { IfOk result (λ r. IsAbove (weight_with (W.reduction crew.entry.work.now)
-        (combination_of (W.reduction crew.entry.work.now) (map W.meaning ready.parts.items))
+        (combination_of (W.reduction crew.entry.work.now) (map W.meaning (parts_of ready.items)))
         (numbers_of_all r.1.items)) limit r.0) }
-    ensures alone { (vec_len ready.hands ≡ 1) ⊎ (pieces_of ready.hands.items ≡ 0)
+    ensures alone { (vec_len ready ≡ 1) ⊎ (pieces_of (hands_of ready.items) ≡ 0)
         → IfErr result (λ e. e ≡ PoolFault.OutOfMemory) }
 {
     let work = crew.work;
-    let mut finished = work_through(crew, limit, ready)?;
-    keep_apart(&mut finished.hands);
-    let concluded = conclude(work, limit, finished)?;
-    Ok(concluded)
+    let alloc = crew.alloc;
+    let finished = work_through(crew, limit, ready)?;
+    let weight = weigh(work, &finished);
+    let (mut hands, shares, parts) = into_lists(alloc, finished)?;
+    keep_apart(&mut hands);
+    let outcome = conclude(work, weight, limit, parts)?;
+    Ok((outcome, hands, shares))
 }
 
-/// Does all pieces of a new deal onto a part that was made before: hand 0 on the calling thread, which goes on with that
-/// part, each other hand on a thread of its own.
+/// Does all pieces of a new deal onto a part that was made before: hand 0 on the calling thread, which goes on with
+/// that part, each other hand on a thread of its own.
 fn fan_onto<W: Work + Sync, L: Ledger + Send + Sync, R: Threads + Wait + Sync>(
     rt: &R,
     alloc: Global,
@@ -361,6 +353,7 @@ fn fan_onto<W: Work + Sync, L: Ledger + Send + Sync, R: Threads + Wait + Sync>(
     ensures back { IfOk result (λ r.
         CameBack (piece_weight (W.reduction work.now)) (λ s. s.sum)
         hands.items shares.items r.1.items r.2.items) }
+    ensures run { IfOk result (λ r. AreRun r.1.items) }
     ensures once { IfOk result (λ r. HaveNoneTwice r.1.items) }
     ensures settled { IfOk result (λ r. Settles r.0 r.1.items) }
     ensures over { IfOk result (λ r.
@@ -370,17 +363,13 @@ fn fan_onto<W: Work + Sync, L: Ledger + Send + Sync, R: Threads + Wait + Sync>(
         → IfErr result (λ e. e ≡ PoolFault.OutOfMemory) }
 {
     let parts = parts_from(alloc, work, part, hands.len())?;
+    let ready = workers_from(alloc, hands, shares, parts)?;
     let crew = Crew {
         rt,
         alloc,
         work,
         book,
         stop,
-    };
-    let ready = Gathered {
-        hands,
-        shares,
-        parts,
     };
     fan_ready(crew, limit, ready)
 }
@@ -424,6 +413,7 @@ pub fn fan_on<W: Work + Sync, L: Ledger + Send + Sync, R: Threads + Wait + Sync>
     ensures back { IfOk result (λ r.
         CameBack (piece_weight (W.reduction work.now)) (λ s. s.sum)
         hands.items shares.items r.1.items r.2.items) }
+    ensures run { IfOk result (λ r. AreRun r.1.items) }
     ensures once { IfOk result (λ r. HaveNoneTwice r.1.items) }
     ensures settled { IfOk result (λ r. Settles r.0 r.1.items) }
     ensures over { IfOk result (λ r.
@@ -435,23 +425,25 @@ pub fn fan_on<W: Work + Sync, L: Ledger + Send + Sync, R: Threads + Wait + Sync>
     fan_onto(rt, alloc, work, unit, hands, limit, book, stop, shares)
 }
 
-/// Does the pieces below a number, at most 1,048,576, onto a part that was made before, by the hands of a new deal, as many
-/// as there are shares, over a book that may have been reported to before: hand 0 works on the calling thread and goes on
-/// with that part, each other hand on a thread of its own. So one book serves several deals, one after the other. With one
-/// hand, or no piece, no thread is started.
+/// Does the pieces below a number, at most 1,048,576, onto a part that was made before, by the hands of a new deal,
+/// as many as there are shares, over a book that may have been reported to before: hand 0 works on the calling thread
+/// and goes on with that part, each other hand on a thread of its own. So one book serves several deals, one after
+/// the other. With one hand, or no piece, no thread is started.
 ///
-/// A worker may stop once the book's number is above `stop`. The answer is the part and all pieces, combined, or `Over`
-/// where the weight of the part and those of the pieces add up to more than `limit`; the hands of the deal; and the shares.
-/// Hands and shares come in their order, and each share has grown by the weights of the pieces in its hand's list. No piece
-/// is in two lists, and after `Whole` each is in one. What the part weighs is not reported to the book.
+/// A worker may stop once the book's number is above `stop`. The answer is the part and all pieces, combined, or
+/// `Over` where the weight of the part and those of the pieces add up to more than `limit`; the hands of the deal;
+/// and the shares. Hands and shares come in their order, and each share has grown by the weights of the pieces in its
+/// hand's list. No piece is in two lists, and after `Whole` each is in one. What the part weighs is not reported to
+/// the book.
 ///
 /// It asks for a part of this work whose load and the loads of all pieces add up to less than 2^63, for 1 to 64 shares,
 /// and that the loads of all pieces, with the sum of any share, add up to less than 2^63. All threads have ended when
 /// it answers.
 ///
 /// Example: where a part is a number, which is its weight too, parts are added, and each of 100 pieces is 1,
-/// `fan_deal_onto(rt, alloc, &work, 5, 100, 105, &book, 105, shares)` answers `Whole(105)`, the hands, which are settled,
-/// and the shares; `fan_deal_onto(rt, alloc, &work, 5, 100, 104, &book, 105, shares)` answers `Over`, hands and shares.
+/// `fan_deal_onto(rt, alloc, &work, 5, 100, 105, &book, 105, shares)` answers `Whole(105)`, the hands, which are
+/// settled, and the shares; `fan_deal_onto(rt, alloc, &work, 5, 100, 104, &book, 105, shares)` answers `Over`, hands
+/// and shares.
 ///
 /// # Errors
 ///
@@ -479,6 +471,7 @@ pub fn fan_deal_onto<W: Work + Sync, L: Ledger + Send + Sync, R: Threads + Wait 
     ensures deal { IfOk result (λ r. AreAll r.1.items × (pieces_of r.1.items ≡ pieces)) }
     ensures reported { IfOk result (λ r. Reported (piece_weight (W.reduction work.now))
         (λ s. s.sum) shares.items r.1.items r.2.items) }
+    ensures run { IfOk result (λ r. AreRun r.1.items) }
     ensures once { IfOk result (λ r. HaveNoneTwice r.1.items) }
     ensures settled { IfOk result (λ r. Settles r.0 r.1.items) }
     ensures over { IfOk result (λ r.

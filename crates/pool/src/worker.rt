@@ -7,7 +7,7 @@ use crate::book::{Book, Share};
 use crate::deal::{Hand, Next};
 use crate::laws::Work;
 use std::alloc::{AllocError, Global};
-use std::marker::{Send, Sync};
+use std::marker::{Model, Send, Sync};
 use std::snapshot::Snapshot;
 use std::sync::Wait;
 use std::sync::ledger::Ledger;
@@ -24,11 +24,29 @@ pub struct Crew<'a, W, L: Ledger, R> {
 }
 
 /// What a worker has: its hand, its share, and a part: what it began with and the pieces in the hand's list, combined.
+/// Contracts see the share as its sum.
 #[derive(Drop)]
 pub struct Done<P, L: Ledger> {
     pub hand: Hand,
     pub share: Share<L>,
     pub part: P,
+}
+
+impl<P, L: Ledger> Model for Done<P, L> {
+    ghost use Rattle.pool.specs.Inside.Done.{Worker};
+
+    ghost Value = { Worker P };
+
+    ghost view = { λ d. record { hand = d.hand; sum = d.share.sum; part = d.part } };
+}
+
+impl<P, L: Ledger> Done<P, L> {
+    /// How many pieces the deal of its hand has.
+    pub fn pieces(&self) -> u32
+        ensures { result ≡ self.now.hand.pieces }
+    {
+        self.hand.pieces()
+    }
 }
 
 /// Where a worker could go on with what it was handed, it gives back what it did, as `go_on` says.
@@ -47,8 +65,8 @@ impl<'a, W, P, L: Ledger> Drop for Promised<'a, W, P, L> {
 impl<'a, W: Work, L: Ledger> Promise<Result<Done<W::Part, L>, AllocError>>
     for Promised<'a, W, W::Part, L> {
     ghost kept_by = { λ p r. IfOk r (λ d. HasResumed (W.reduction p.work.now)
-        p.before.value.hand p.before.value.share.sum (W.meaning p.before.value.part)
-        d.hand d.share.sum (W.meaning d.part)) };
+        p.before.value.hand p.before.value.sum (W.meaning p.before.value.part)
+        d.hand d.sum (W.meaning d.part)) };
 }
 
 /// Does one piece: the part has one more, and the share's sum its weight more. Also answers the book's number after it.
@@ -75,8 +93,8 @@ fn add_piece<W: Work, L: Ledger, R: Wait>(
     Ok((part, number))
 }
 
-/// Takes pieces until the hand is spent, or the book answers a number above `stop`. No number is above the greatest. What
-/// the worker began with, the unit or a part that was made before, stays in the part.
+/// Takes pieces until the hand is spent, or the book answers a number above `stop`. No number is above the greatest.
+/// What the worker began with, the unit or a part that was made before, stays in the part.
 fn take_pieces<W: Work, L: Ledger, R: Wait>(
     crew: &Crew<'_, W, L, R>,
     hand: &mut Hand,
@@ -110,10 +128,10 @@ pub fn go_on<W: Work, L: Ledger, R: Wait>(
     crew: &Crew<'_, W, L, R>,
     done: Done<W::Part, L>,
 ) -> Result<Done<W::Part, L>, AllocError>
-    requires { MayResume (W.reduction crew.now.work.now) done.hand done.share.sum
+    requires { MayResume (W.reduction crew.now.work.now) done.hand done.sum
         (W.meaning done.part) }
     ensures did { IfOk result (λ d. HasResumed (W.reduction crew.now.work.now)
-        done.hand done.share.sum (W.meaning done.part) d.hand d.share.sum (W.meaning d.part)) }
+        done.hand done.sum (W.meaning done.part) d.hand d.sum (W.meaning d.part)) }
     ensures spent { crew.now.stop ≡ 2 ^ 128 - 1 → IfOk result (λ d. d.hand.spent ≡ true) }
 {
     let Done {
@@ -137,7 +155,7 @@ pub fn start<'s, E, W: Work + Sync, L: Ledger + Send + Sync, R: Wait + Sync>(
     crew: &'s Crew<'s, W, L, R>,
     done: Done<W::Part, L>,
 ) -> Option<Running<'s, W, W::Part, L>>
-    requires { MayResume (W.reduction crew.now.work.now) done.hand done.share.sum
+    requires { MayResume (W.reduction crew.now.work.now) done.hand done.sum
         (W.meaning done.part) }
     ensures work { IfSome result (λ h. h.promise.work.now ≡ crew.now.work.now) }
     ensures before { IfSome result (λ h. h.promise.before.value ≡ done) }
@@ -147,10 +165,10 @@ pub fn start<'s, E, W: Work + Sync, L: Ledger + Send + Sync, R: Wait + Sync>(
         before: Snapshot::of(&done),
     };
     let run = move || -> Result<Done<W::Part, L>, AllocError>
-        requires { MayResume (W.reduction crew.now.work.now) done.hand done.share.sum
+        requires { MayResume (W.reduction crew.now.work.now) done.hand done.sum
             (W.meaning done.part) }
         ensures { IfOk result (λ d. HasResumed (W.reduction crew.entry.now.work.now)
-            done.hand done.share.sum (W.meaning done.part) d.hand d.share.sum (W.meaning d.part)) }
+            done.hand done.sum (W.meaning done.part) d.hand d.sum (W.meaning d.part)) }
     { go_on(crew, done) };
     scope.spawn_with(promise, run).ok()
 }

@@ -1,10 +1,10 @@
 -- What all workers of a deal begin with, and do.
-use Rattle.std.specs.Prelude.{◌≡◌, ℕ, suc, ◌+◌, ◌^◌, ◌<◌, ◌⊎◌, All, List, [], ◌∷◌, ◌++◌, length, map, slice_index_or}
+use Rattle.std.specs.Prelude.{◌≡◌, ℕ, suc, ◌+◌, ◌^◌, ◌<◌, ◌⊎◌, All, List, [], ◌∷◌, length, map, slice_index_or}
 use mathlib.Core.Option.{some}
 use lib.ListN.{get_elem?}
 use Rattle.pool.specs.Assembly.{IsNewDeal}
 use Rattle.pool.specs.Holding.{Holding}
-use Rattle.pool.specs.Inside.Done.{Did, MayGoOn}
+use Rattle.pool.specs.Inside.Done.{Worker, hands_of, sums_of, parts_of, Did, MayGoOn}
 use Rattle.pool.specs.Inside.Totals.{combination_of}
 use Rattle.pool.specs.Reduction.{Reduction, load_below, load_onto}
 use Rattle.pool.specs.Settled.{pieces_of}
@@ -13,43 +13,40 @@ use Rattle.pool.specs.Settled.{pieces_of}
 abbrev pub beginning_at : {M : Type 0} → Reduction M → List M → ℕ → M
 beginning_at r ms i = slice_index_or ms i r.unit
 
--- All hands of a new deal, with as many shares and parts. The parts are those of a work, and have room for the loads of all pieces, and so has each share.
-pub record AreReady {M S P : Type 0} (r : Reduction M) (sum : S → ℕ) (meaning : P → M) (hs : List Holding) (ss : List S) (ps : List P) : Type 0 where
-  pub deal : IsNewDeal (pieces_of hs) (length hs) hs
-  pub shares : length ss ≡ length hs
-  pub parts : length ps ≡ length hs
-  pub fit : All (λ p. r.fits (meaning p)) ps
-  pub loads : load_onto r (combination_of r (map meaning ps)) (pieces_of hs) < 2 ^ 63
-  pub room : (i : ℕ) (s : S) → get_elem? ss i ≡ some s → load_below r (pieces_of hs) + sum s < 2 ^ 63
+-- The workers have all hands of a new deal. Their parts are those of a work, and have room for the loads of all
+-- pieces, and so has each share
+pub record AreReady {M P : Type 0} (r : Reduction M) (meaning : P → M) (ws : List (Worker P)) : Type 0 where
+  pub deal : IsNewDeal (pieces_of (hands_of ws)) (length (hands_of ws)) (hands_of ws)
+  pub fit : All (λ p. r.fits (meaning p)) (parts_of ws)
+  pub loads : load_onto r (combination_of r (map meaning (parts_of ws))) (pieces_of (hands_of ws)) < 2 ^ 63
+  pub room : All (λ sum. load_below r (pieces_of (hands_of ws)) + sum < 2 ^ 63) (sums_of ws)
 
--- each hand went on as `Did` says, from what the hand at its place began with, with its share and its part
-abbrev pub DidAll : {M S P : Type 0} → (ℕ → M) → Reduction M → (S → ℕ) → (P → M) → List Holding → List S → List Holding → List S → List P → Type 0
-DidAll begin r sum meaning [] ss ks ts ps = (ss ≡ []) × (ks ≡ []) × (ts ≡ []) × (ps ≡ [])
-DidAll begin r sum meaning (h ∷ hs) ss ks ts ps =
-    (s : _) × (k : Holding) × (t : _) × (p : _) × (ss' : List _) × (ks' : List Holding) × (ts' : List _) × (ps' : List _)
-    × (ss ≡ s ∷ ss') × (ks ≡ k ∷ ks') × (ts ≡ t ∷ ts') × (ps ≡ p ∷ ps') × Did (begin 0) r h (sum s) k (sum t) (meaning p) × DidAll (λ i. begin (suc i)) r sum meaning hs ss' ks' ts' ps'
+-- each worker went on as `Did` says, from what the one at its place began with
+abbrev pub DidAll : {M P : Type 0} → (ℕ → M) → Reduction M → (P → M) → List (Worker P) → List (Worker P) → Type 0
+DidAll begin r meaning [] [] = Unit {0}
+DidAll begin r meaning [] (w ∷ ws) = ⊥
+DidAll begin r meaning (v ∷ vs) [] = ⊥
+DidAll begin r meaning (v ∷ vs) (w ∷ ws) =
+    Did (begin 0) r v.hand v.sum w.hand w.sum (meaning w.part) × DidAll (λ i. begin (suc i)) r meaning vs ws
 
--- as many hands as shares and parts. Each part is what its hand began with and the pieces in the hand's list, combined, and has room for the loads of all pieces; each share has room for those of the pieces that the hand may still take
-abbrev pub AreUnderWay : {M S P : Type 0} → (ℕ → M) → Reduction M → (S → ℕ) → (P → M) → List Holding → List S → List P → Type 0
-AreUnderWay begin r sum meaning ks ts ps =
-    (length ks ≡ length ts) × (length ks ≡ length ps)
-    × ((i : ℕ) (k : Holding) (t : _) (p : _) → get_elem? ks i ≡ some k → get_elem? ts i ≡ some t → get_elem? ps i ≡ some p → MayGoOn (begin i) r k (sum t) (meaning p))
+-- each worker may go on, from what the one at its place began with
+abbrev pub AreUnderWay : {M P : Type 0} → (ℕ → M) → Reduction M → (P → M) → List (Worker P) → Type 0
+AreUnderWay begin r meaning [] = Unit {0}
+AreUnderWay begin r meaning (w ∷ ws) =
+    MayGoOn (begin 0) r w.hand w.sum (meaning w.part) × AreUnderWay (λ i. begin (suc i)) r meaning ws
 
--- there are parts of the work that workers with these hands, shares and parts may have begun with, so that they may go on
-abbrev pub MayResumeAll : {M S P : Type 0} → Reduction M → (S → ℕ) → (P → M) → List Holding → List S → List P → Type 0
-MayResumeAll r sum meaning hs ss ps = (begin : ℕ → _) × ((i : ℕ) → r.fits (begin i)) × AreUnderWay begin r sum meaning hs ss ps
+-- there are parts of the work that these workers may have begun with, so that they may go on
+abbrev pub MayResumeAll : {M P : Type 0} → Reduction M → (P → M) → List (Worker P) → Type 0
+MayResumeAll r meaning ws = (begin : ℕ → _) × ((i : ℕ) → r.fits (begin i)) × AreUnderWay begin r meaning ws
 
--- whatever parts of the work they began with: where workers with these hands, shares and parts may go on, they went on to those
-abbrev pub HaveResumed : {M S P : Type 0} → Reduction M → (S → ℕ) → (P → M) → List Holding → List S → List P → List Holding → List S → List P → Type 0
-HaveResumed r sum meaning hs ss ps ks ts qs = (begin : ℕ → _) → ((i : ℕ) → r.fits (begin i)) → AreUnderWay begin r sum meaning hs ss ps → DidAll begin r sum meaning hs ss ks ts qs
+-- whatever parts of the work they began with: where the first workers may go on, they went on to the others
+abbrev pub HaveResumed : {M P : Type 0} → Reduction M → (P → M) → List (Worker P) → List (Worker P) → Type 0
+HaveResumed r meaning vs ws =
+    (begin : ℕ → _) → ((i : ℕ) → r.fits (begin i)) → AreUnderWay begin r meaning vs → DidAll begin r meaning vs ws
 
--- workers with these hands, shares and parts, who begin with those parts, went on to the others
-abbrev pub HaveBegunAndResumed : {M S P : Type 0} → Reduction M → (S → ℕ) → (P → M) → List Holding → List S → List P → List Holding → List S → List P → Type 0
-HaveBegunAndResumed r sum meaning hs ss ps ks ts qs = DidAll (beginning_at r (map meaning ps)) r sum meaning hs ss ks ts qs
-
--- the first three lists are the others, each with one more at its end
-abbrev pub IsLonger : {S P : Type 0} → List Holding → List S → List P → List Holding → List S → List P → Holding → S → P → Type 0
-IsLonger hs ss ps ks ts qs k t q = (hs ≡ ks ++ k ∷ []) × (ss ≡ ts ++ t ∷ []) × (ps ≡ qs ++ q ∷ [])
+-- the first workers, who begin with their parts, went on to the others
+abbrev pub HaveBegunAndResumed : {M P : Type 0} → Reduction M → (P → M) → List (Worker P) → List (Worker P) → Type 0
+HaveBegunAndResumed r meaning vs ws = DidAll (beginning_at r (map meaning (parts_of vs))) r meaning vs ws
 
 -- no thread is needed: but for the first, each hand is of a deal with no piece
 abbrev pub NeedNoThread : List Holding → Type 0

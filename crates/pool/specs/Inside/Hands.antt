@@ -8,7 +8,8 @@ use Rattle.pool.specs.Seen.{Seen, Owned, Took}
 -- one of these gained the number, or nothing changed
 abbrev pub Steals : List Seen → Option ℕ → List Seen → Type 0
 Steals ss None ts = ts ≡ ss
-Steals ss (Some x) ts = (r : ℕ) × (old : Seen) × (s : Seen) × (get_elem? ss r ≡ some old) × Took old x s × (ts ≡ slice_set ss r s)
+Steals ss (Some x) ts =
+    (r : ℕ) × (old : Seen) × (s : Seen) × (get_elem? ss r ≡ some old) × Took old x s × (ts ≡ slice_set ss r s)
 
 -- a hand that has answered nothing yet
 abbrev pub new_holding : ℕ → ℕ → ℕ → Owned → List Seen → Holding

@@ -2,7 +2,8 @@
 use Rattle.std.specs.Prelude.{◌≡◌, ℕ, Bool, true, false, ◌<◌, ◌≤◌, List, [], ◌∷◌}
 use Rattle.std.specs.declared.alloc.Global.{Global}
 use Rattle.pool.specs.declared.view.View.{View}
-use Rattle.pool.specs.Inside.Rule.{view_of}
+use Rattle.pool.specs.Dealing.{left_after}
+use Rattle.pool.specs.Rule.{view_of}
 use Rattle.pool.specs.Seen.{Seen, Owned}
 
 -- the first of these hands
@@ -10,26 +11,31 @@ abbrev pub place_of : List (ℕ × List ℕ) → ℕ
 place_of [] = 0
 place_of (p ∷ ps) = p.0
 
--- and what it has
-abbrev pub list_of : List (ℕ × List ℕ) → List ℕ
-list_of [] = []
-list_of (p ∷ ps) = p.1
+-- and the steps that it knows of
+abbrev pub history_of : List (ℕ × List ℕ) → List ℕ
+history_of [] = []
+history_of (p ∷ ps) = p.1
 
 -- what a hand with this view has of the deque
 abbrev pub seen_of : (ℕ × ℕ) × Global → View → Seen
-seen_of deque v = record { deque = deque; numbers = v.numbers; place = place_of v.known; list = list_of v.known }
+seen_of deque v = record { deque = deque; numbers = v.numbers; place = place_of v.known; history = history_of v.known }
 
 -- what its owner has of it
-abbrev pub owned_of : (ℕ × ℕ) × Global → View → Bool → Owned
-owned_of deque v closed = record { seen = record { deque = deque; numbers = v.numbers; place = 0; list = list_of v.known }; made = v.made; closed = closed }
+abbrev pub owned_of : (ℕ × ℕ) × Global → View → Owned
+owned_of deque v = record { seen = record { deque = deque; numbers = v.numbers; place = 0; history = history_of v.known }; made = v.made }
 
--- the view of a sealed deque's owner, which has its own seat, and is owed a mark until it found one. From then on it knows that no number is left
+-- the view of a sealed deque's owner, which has its own seat, and is owed a mark until it found one. Then what it
+-- knows of left nothing
 abbrev pub IsOwner : View → Bool → Type 0
-IsOwner v closed = (v.filling ≡ false) × (v.owner ≡ true) × (v.known ≡ (0, list_of v.known) ∷ []) × (closed ≡ false → 0 < v.ends) × (closed ≡ true → v.closed ≡ true)
+IsOwner v closed =
+    (v.filling ≡ false) × (v.owner ≡ true) × (v.known ≡ (0, history_of v.known) ∷ [])
+    × (closed ≡ false → 0 < v.ends) × (closed ≡ true → left_after v.numbers (history_of v.known) ≡ [])
 
 -- the view of another hand
 abbrev pub IsThief : View → Bool → Type 0
-IsThief v closed = (v.filling ≡ false) × (v.owner ≡ false) × (v.known ≡ (place_of v.known, list_of v.known) ∷ []) × (closed ≡ false → 0 < v.ends) × (closed ≡ true → v.closed ≡ true)
+IsThief v closed =
+    (v.filling ≡ false) × (v.owner ≡ false) × (v.known ≡ (place_of v.known, history_of v.known) ∷ [])
+    × (closed ≡ false → 0 < v.ends)
 
 -- a deque whose hands are being seated: how many seats were given, its owner's among them, of how many
 pub record Offer : Type 0 where
@@ -44,7 +50,7 @@ offer_of deque v hands = record { deque = deque; numbers = v.numbers; made = v.m
 
 -- the next seat
 abbrev pub next_seat : Offer → Seen
-next_seat o = record { deque = o.deque; numbers = o.numbers; place = o.made; list = [] }
+next_seat o = record { deque = o.deque; numbers = o.numbers; place = o.made; history = [] }
 
 -- with so many seats given
 abbrev pub offer_with : Offer → ℕ → Offer
@@ -52,8 +58,8 @@ offer_with o made = record { deque = o.deque; numbers = o.numbers; made = made; 
 
 -- what the owner has of it, once all seats are given
 abbrev pub owned_first : Offer → Owned
-owned_first o = record { seen = record { deque = o.deque; numbers = o.numbers; place = 0; list = [] }; made = o.made; closed = false }
+owned_first o = record { seen = record { deque = o.deque; numbers = o.numbers; place = 0; history = [] }; made = o.made }
 
--- the view of an owner after it looked at the lists of others: the end marks that it is owed did not become fewer, and it may know that no number is left
+-- the view of an owner after it looked at what others know: the end marks that it is owed did not become fewer
 abbrev pub Looked : View → View → Type 0
-Looked v w = (w ≡ view_of v.filling v.owner w.ends v.made v.numbers v.known w.closed) × (v.ends ≤ w.ends) × (v.closed ≡ true → w.closed ≡ true)
+Looked v w = (w ≡ view_of v.filling v.owner w.ends v.made v.numbers v.known) × (v.ends ≤ w.ends)

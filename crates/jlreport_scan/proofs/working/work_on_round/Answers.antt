@@ -151,4 +151,4 @@ returns-clause-taken g c =
     let shares = c.args.shares.ok in
     let hands = pooled.reported.0 in
     let settled = subst (λ outcome. Settles outcome c.in_ok-outcome.hands.items) c.in_ok-whole.ensures.whole pooled.settled in
-    record { cut = c.in_ok-pieces.ensures.cut; deal = (pooled.deal.0, omega (arith, hands, shares), pooled.deal.1 ∙ count); once = settled.1 }
+    record { cut = c.in_ok-pieces.ensures.cut; deal = (pooled.deal.0, omega (arith, hands, shares), pooled.deal.1 ∙ count); run = pooled.run; once = settled.1 }

@@ -1,25 +1,24 @@
-use Rattle.std.proofs.Common.{◌≡◌, ◌∙◌, ◌≢◌, ◌%◌, length, ℕ, sym, subst, arith, ⊎_elim}
+use Rattle.std.proofs.Common.{◌≡◌, ◌∙◌, ◌≢◌, List, length, ℕ, sym, subst, arith, ⊎_elim}
 use Rattle.std.proofs.lemmas.Bool.{cases_eq}
-use Rattle.std.proofs.lemmas.Nat.{mod_below}
-use Rattle.pool.specs.Dealing.{times}
-use Rattle.pool.specs.Inside.Rule.{UpTo}
-use Rattle.pool.specs.Totals.{once_below}
-use Rattle.pool.specs.Settled.{numbers_of_all, pieces_of, AreAll, IsClosed}
+use Rattle.pool.specs.Rule.{AllBelow}
+use Rattle.pool.specs.Settled.{AreAll, IsRunAt}
+use Rattle.pool.proofs.Runs.{all_run}
 use Rattle.pool.proofs.deal.compare_all.Goals as goal
-
-pub loop-d-preserved : goal.loop-d-preserved
-loop-d-preserved c =
-    let inv = c.loop-d.invariant in
-    let fact : (x : ℕ) → x % length c.args.hands.now ≡ c.loop-d.d → UpTo (IsClosed (x % length c.args.hands.now) c.args.hands.now) (times x (numbers_of_all c.args.hands.now)) (once_below x (pieces_of c.args.hands.now)) = λ x ours. subst (λ d. UpTo (IsClosed d c.args.hands.now) (times x (numbers_of_all c.args.hands.now)) (once_below x (pieces_of c.args.hands.now))) (sym ours) (subst (λ l. (x : ℕ) → x % length l ≡ c.loop-d.d → UpTo (IsClosed c.loop-d.d l) (times x (numbers_of_all l)) (once_below x (pieces_of l))) inv.0 c.compare_at.ensures.apart x ours) in (
-      c.compare_at.ensures.same ∙ inv.0,
-      λ x below. ⊎_elim (λ (e : x % length c.args.hands.now ≡ c.loop-d.d). fact x e) (λ (n : x % length c.args.hands.now ≢ c.loop-d.d). inv.1 x (omega (arith, n, below))) (cases_eq (x % length c.args.hands.now) c.loop-d.d),
-    )
-
-pub returns-clause-apart : goal.returns-clause-apart
-returns-clause-apart c x =
-    let b = mod_below x (length c.args.hands.now) c.requires.deal.0 in
-    let l = c.loop-d-test.false in
-    c.loop-d.invariant.1 x (omega (arith, b, l))
 
 pub compare_at-requires-clause-deal : goal.compare_at-requires-clause-deal
 compare_at-requires-clause-deal c = subst AreAll (sym c.loop-d.invariant.0) c.requires.deal
+
+pub loop-d-preserved : goal.loop-d-preserved
+loop-d-preserved c =
+    let inv = c.loop-d.invariant in (
+      c.compare_at.ensures.same ∙ inv.0,
+      λ d below. ⊎_elim
+          (λ (e : d ≡ c.loop-d.d). subst (λ m. (schedule : List ℕ) × AllBelow (length c.args.hands.now) schedule × IsRunAt m schedule c.args.hands.now) (sym e) (subst (λ l. (schedule : List ℕ) × AllBelow (length l) schedule × IsRunAt c.loop-d.d schedule l) inv.0 c.compare_at.ensures.run))
+          (λ (n : d ≢ c.loop-d.d). inv.1 d (omega (arith, n, below)))
+          (cases_eq d c.loop-d.d),
+    )
+
+pub returns-clause-run : goal.returns-clause-run
+returns-clause-run c =
+    let l = c.loop-d-test.false in
+    all_run c.args.hands.now (λ d low. c.loop-d.invariant.1 d (omega (arith, low, l)))

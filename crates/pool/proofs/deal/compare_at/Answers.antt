@@ -1,5 +1,6 @@
 use Rattle.std.proofs.Common.{◌∙◌, ◌++◌, ap}
-use Rattle.pool.proofs.Deals.{mine_made, before_reach, after_reach, apart_account}
+use Rattle.pool.proofs.Deals.{mine_made, before_reach, after_reach}
+use Rattle.pool.proofs.Runs.{run_at}
 use Rattle.pool.proofs.deal.compare_at.Goals as goal
 
 pub compare_with-requires-clause-count : goal.compare_with-requires-clause-count
@@ -17,7 +18,7 @@ compare_with-requires-clause-before c =
     let is = c.split_at_mut-before.ensures.value ∙ ap (λ l. c.split_at_mut-before.result.0.now ++ l) c.in-Some.ensures.cases.0 in
     before_reach c.args.hands.now c.split_at_mut-before.result.0.now c.in-Some.after.now c.in-Some.mine.now c.args.d c.requires.deal is c.split_at_mut-before.ensures.front_len
 
-pub returns-clause-apart : goal.returns-clause-apart
-returns-clause-apart c =
+pub returns-clause-run : goal.returns-clause-run
+returns-clause-run c =
     let is = c.split_at_mut-before.ensures.value ∙ ap (λ l. c.split_at_mut-before.result.0.now ++ l) c.in-Some.ensures.cases.0 in
-    apart_account c.args.hands.now c.split_at_mut-before.result.0.now c.in-Some.after.now c.in-Some.mine.now c.args.d c.requires.deal is c.split_at_mut-before.ensures.front_len c.compare_with.ensures.apart
+    run_at c.args.hands.now c.split_at_mut-before.result.0.now c.in-Some.after.now c.in-Some.mine.now c.args.d c.requires.deal is c.split_at_mut-before.ensures.front_len c.compare_with.ensures.run

@@ -3,8 +3,8 @@ use Rattle.std.proofs.lemmas.List.{with_items_is}
 use Rattle.pool.specs.Dealing.{times}
 use Rattle.pool.specs.Inside.Rule.{UpTo}
 use Rattle.pool.specs.Totals.{once_below}
-use Rattle.pool.specs.Settled.{AreAll, AllSpent, numbers_of_all, pieces_of}
-use Rattle.pool.proofs.Deals.{apart_spent}
+use Rattle.pool.specs.Settled.{AreAll, AllSpent, AreRun, numbers_of_all, pieces_of}
+use Rattle.pool.proofs.Fronts.{run_none_twice, run_each_once}
 use Rattle.pool.proofs.threads.keep_apart.Goals as goal
 
 pub compare_all-requires : goal.compare_all-requires
@@ -18,4 +18,10 @@ returns-clause-same c =
     with_items_is c.args.hands.now c.compare_all.new.hands (omega (arith, n, ok)) ∙ e
 
 pub returns-clause-apart : goal.returns-clause-apart
-returns-clause-apart c = subst (λ l. (x : ℕ) → UpTo (AllSpent l) (times x (numbers_of_all l)) (once_below x (pieces_of l))) c.as_mut_slice.ensures.value (apart_spent _ (subst AreAll (sym c.as_mut_slice.ensures.value) c.requires) c.compare_all.ensures.apart)
+returns-clause-apart c =
+    let deal = subst AreAll (sym c.as_mut_slice.ensures.value) c.requires in
+    let run = c.compare_all.ensures.run in
+    subst (λ l. (x : ℕ) → UpTo (AllSpent l) (times x (numbers_of_all l)) (once_below x (pieces_of l))) (c.as_mut_slice.ensures.value ∙ sym (returns-clause-same c)) (λ x. (run_none_twice _ deal run x, λ all. run_each_once _ deal run all x))
+
+pub returns-clause-run : goal.returns-clause-run
+returns-clause-run c = subst AreRun (c.as_mut_slice.ensures.value ∙ sym (returns-clause-same c)) c.compare_all.ensures.run
