@@ -67,8 +67,8 @@ pub record HasRead (old new : Option (List ℕ)) (taken counted : ℕ) : Type 0 
 abbrev pub HasCause : (erred : Bool) (taken : ℕ) → Type 0
 HasCause erred taken = (erred ≡ true) ⊎ (2 ^ 63 ≤ taken)
 
--- what a call does that may give a round. A fault is told where a read is recorded to have answered an error, and only
--- there or where 2^63 bytes were read
+-- what a call does that may give a round. It answers a fault wherever a read is recorded to have answered an error, and
+-- only there or where 2^63 bytes were read
 pub record HasMoved {R : Type 0} (old : RoundsState R) (found : Result Bool ReadFault) (new : RoundsState R) : Type 0 where
   pub round : found ≡ Ok true → HasGiven old new
   pub none : found ≡ Ok false → HasNothing old new

@@ -5,6 +5,7 @@ mod Literals
 mod Marks
 pub mod Meaning
 mod Nested
+mod NoNames
 mod NumberExamples
 mod Parts
 mod PartsAt

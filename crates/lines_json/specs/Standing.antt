@@ -2,6 +2,7 @@
 use Rattle.std.specs.Prelude.{◌≡◌, ℕ, ◌+◌, ◌-◌, ◌<◌, ◌≤◌, ℤ, List, ◌∷◌, length, drop, take, get_or, true, false, Some, option_and_then}
 use Rattle.json.specs.Token.{Token, number}
 use Rattle.json.specs.Text.{content, plain}
+use Rattle.json.specs.Word.{is_space}
 use Rattle.json.specs.Lex.{Lexeme, token, between, in_string, lex, Place, after_value, may_begin, begins_colon, punctuate}
 use Rattle.serde_json.specs.Data.{Data}
 use Rattle.serde_json.specs.Find.{as_integer}
@@ -17,6 +18,10 @@ pub record IsTokenAt (text : List ℕ) (at stop : ℕ) (t : Token) : Type 0 wher
   pub later : at < stop
   pub within : stop ≤ length text
   pub stands : lexemes text at ≡ token t ∷ lexemes text stop
+
+-- No such token stands at a place, but maybe behind white space that stands there.
+abbrev pub IsNoTokenAt : List ℕ → ℕ → Token → Type 0
+IsNoTokenAt text at t = is_space (get_or text at 32) ≡ false → (stop : ℕ) → ¬ IsTokenAt text at stop t
 
 -- A string whose first byte stands at a place means these bytes, and the quote that closes it stands at `quote`.
 pub record IsStringOf (text : List ℕ) (from quote : ℕ) (bytes : List ℕ) : Type 0 where

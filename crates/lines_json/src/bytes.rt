@@ -1,5 +1,6 @@
 //! Single bytes of a text, and white space.
-ghost use Rattle.std.specs.Prelude.{◌≡◌, ◌≤◌, get_or, length};
+ghost use Rattle.std.specs.Prelude.{◌≡◌, ◌+◌, ◌≤◌, drop, get_or, length};
+ghost use Rattle.std.specs.List.{prefix_len};
 ghost use Rattle.json.specs.Word.{is_space};
 ghost use Rattle.lines_json.specs.Inside.{is_word_end};
 ghost use Rattle.lines_json.specs.Standing.{lexemes};
@@ -14,7 +15,8 @@ pub fn byte_at(text: &[u8], at: usize) -> u8
     if at < text.len() { text[at] } else { b' ' }
 }
 
-/// Where the white space ends that may stand at a place, RFC 8259, section 2 (`ws`).
+/// Where the white space ends that may stand at a place, RFC 8259, section 2 (`ws`): at the first byte that is none,
+/// or at the end of the text.
 ///
 /// Example: of the text `{ }` it answers 2 at 1, and 0 at 0.
 #[inline(always)]
@@ -22,6 +24,7 @@ pub fn space_end(text: &[u8], from: usize) -> usize
     requires { from ≤ length text.now }
     ensures later { from ≤ result }
     ensures within { result ≤ length text.now }
+    ensures all { result ≡ from + prefix_len is_space (drop from text.now) }
     ensures same { lexemes text.now result ≡ lexemes text.now from }
 {
     if byte_at(text, from) > b' ' {
@@ -37,6 +40,7 @@ fn behind_spaces(text: &[u8], from: usize) -> usize
     requires { from ≤ length text.now }
     ensures later { from ≤ result }
     ensures within { result ≤ length text.now }
+    ensures all { result ≡ from + prefix_len is_space (drop from text.now) }
     ensures same { lexemes text.now result ≡ lexemes text.now from }
 {
     let mut at = from;

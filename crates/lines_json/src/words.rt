@@ -1,17 +1,34 @@
 //! The literal names of RFC 8259, section 3: `true`, `false` and `null`.
-ghost use Rattle.std.specs.Prelude.{◌≡◌, ◌+◌, ◌≤◌, IfSome, IsTrue, false, length, true};
+ghost use Rattle.std.specs.Prelude.{
+  ◌≡◌,
+  ◌+◌,
+  ◌≤◌,
+  Bool,
+  IfSome,
+  IsFalse,
+  IsNone,
+  IsTrue,
+  false,
+  if◌then◌else◌,
+  length,
+  true,
+};
+ghost use Rattle.json.specs.Ascii.{false_text, null_text, true_text};
 ghost use Rattle.json.specs.Token.{boolean, null};
-ghost use Rattle.lines_json.specs.Standing.{IsTokenAt};
+ghost use Rattle.lines_json.specs.Standing.{IsNoTokenAt, IsTokenAt};
 
 use crate::bytes::{byte_at, ends_word};
 
-/// The truth value that stands at a place, and where it ends; `None` says nothing of the text.
+/// The truth value that stands at a place, and where it ends; `None` where none stands there.
 ///
 /// Example: of the text `[true]` it answers `(true, 5)` at 1.
 #[inline(always)]
 pub fn bool_at(text: &[u8], at: usize) -> Option<(bool, usize)>
     requires { at ≤ length text.now }
-    ensures { IfSome result (λ r. IsTokenAt text.now at r.1 (boolean r.0)) }
+    ensures stands { IfSome result (λ r. IsTokenAt text.now at r.1 (boolean r.0)) }
+    ensures ends { IfSome result (λ r. r.1
+        ≡ at + length (if r.0 then true_text else false_text)) }
+    ensures none { IsNone result → (b : Bool) → IsNoTokenAt text.now at (boolean b) }
 {
     if has_true(text, at) {
         return Some((true, at + 4));
@@ -22,13 +39,15 @@ pub fn bool_at(text: &[u8], at: usize) -> Option<(bool, usize)>
     None
 }
 
-/// Where the `null` ends that stands at a place; `None` says nothing of the text.
+/// Where the `null` ends that stands at a place; `None` where none stands there.
 ///
 /// Example: of the text `[null]` it answers 5 at 1.
 #[inline(always)]
 pub fn null_end(text: &[u8], at: usize) -> Option<usize>
     requires { at ≤ length text.now }
-    ensures { IfSome result (λ stop. IsTokenAt text.now at stop null) }
+    ensures stands { IfSome result (λ stop. IsTokenAt text.now at stop null) }
+    ensures ends { IfSome result (λ stop. stop ≡ at + length null_text) }
+    ensures none { IsNone result → IsNoTokenAt text.now at null }
 {
     if has_null(text, at) {
         Some(at + 4)
@@ -37,11 +56,12 @@ pub fn null_end(text: &[u8], at: usize) -> Option<usize>
     }
 }
 
-/// Whether `true` stands at a place; `false` says nothing of the text.
+/// Whether `true` stands at a place.
 #[inline(always)]
 fn has_true(text: &[u8], at: usize) -> bool
     requires { at ≤ length text.now }
-    ensures { IsTrue result → IsTokenAt text.now at (at + 4) (boolean true) }
+    ensures stands { IsTrue result → IsTokenAt text.now at (at + 4) (boolean true) }
+    ensures none { IsFalse result → IsNoTokenAt text.now at (boolean true) }
 {
     if text.len() - at >= 4
         && text[at] == b't'
@@ -59,7 +79,8 @@ fn has_true(text: &[u8], at: usize) -> bool
 #[inline(always)]
 fn has_false(text: &[u8], at: usize) -> bool
     requires { at ≤ length text.now }
-    ensures { IsTrue result → IsTokenAt text.now at (at + 5) (boolean false) }
+    ensures stands { IsTrue result → IsTokenAt text.now at (at + 5) (boolean false) }
+    ensures none { IsFalse result → IsNoTokenAt text.now at (boolean false) }
 {
     if text.len() - at >= 5
         && text[at] == b'f'
@@ -78,7 +99,8 @@ fn has_false(text: &[u8], at: usize) -> bool
 #[inline(always)]
 fn has_null(text: &[u8], at: usize) -> bool
     requires { at ≤ length text.now }
-    ensures { IsTrue result → IsTokenAt text.now at (at + 4) null }
+    ensures stands { IsTrue result → IsTokenAt text.now at (at + 4) null }
+    ensures none { IsFalse result → IsNoTokenAt text.now at null }
 {
     if text.len() - at >= 4
         && text[at] == b'n'

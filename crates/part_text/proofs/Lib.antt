@@ -4,4 +4,5 @@ pub mod Escapes
 pub mod Spellings
 pub mod Same
 pub mod Rows
+mod Cut
 mod Examples

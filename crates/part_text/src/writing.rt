@@ -1,5 +1,5 @@
 //! Values, written as lines.
-ghost use Rattle.std.specs.Prelude.{◌≡◌, [], ◌∷◌, ◌++◌, OnOk};
+ghost use Rattle.std.specs.Prelude.{◌≡◌, [], ◌∷◌, ◌++◌, ℕ, OnErr, OnOk, take};
 ghost use Rattle.semantics.specs.Lines.{line_feed};
 ghost use Rattle.semantics.specs.Values as semantics;
 ghost use Rattle.values.specs.Datum.{datum_of};
@@ -16,9 +16,11 @@ use values::Value;
 ///
 /// # Errors
 ///
-/// `AllocError` where there is no memory for the line. A part of it may stand behind the text then.
+/// `AllocError` where there is no memory for the line. The first bytes of it may stand behind the text then.
 pub fn push_value(alloc: Global, text: &mut Vec<u8>, value: &Value) -> Result<(), AllocError>
-    ensures { OnOk result (text.new.items ≡ text.old.items ++ line_of (datum_of value.now)) }
+    ensures behind { OnOk result (text.new.items ≡ text.old.items ++ line_of (datum_of value.now)) }
+    ensures front { OnErr result ((count : ℕ)
+        × (text.new.items ≡ text.old.items ++ take count (line_of (datum_of value.now)))) }
 {
     match value {
         Value::Bool(true) => push_line(text, b"true"),
@@ -31,7 +33,10 @@ pub fn push_value(alloc: Global, text: &mut Vec<u8>, value: &Value) -> Result<()
 
 /// Puts the line of a text behind others.
 fn push_string(alloc: Global, text: &mut Vec<u8>, string: &str) -> Result<(), AllocError>
-    ensures { OnOk result (text.new.items ≡ text.old.items ++ line_of (semantics.text string.now)) }
+    ensures behind { OnOk result (text.new.items
+        ≡ text.old.items ++ line_of (semantics.text string.now)) }
+    ensures front { OnErr result ((count : ℕ) × (text.new.items
+        ≡ text.old.items ++ take count (line_of (semantics.text string.now)))) }
 {
     if has_no_escape(string) {
         text.push(b'"')?;
@@ -43,7 +48,9 @@ fn push_string(alloc: Global, text: &mut Vec<u8>, string: &str) -> Result<(), Al
 
 /// Puts bytes and a line feed behind a text.
 fn push_line(text: &mut Vec<u8>, line: &[u8]) -> Result<(), AllocError>
-    ensures { OnOk result (text.new.items ≡ text.old.items ++ line.now ++ line_feed ∷ []) }
+    ensures behind { OnOk result (text.new.items ≡ text.old.items ++ line.now ++ line_feed ∷ []) }
+    ensures front { OnErr result ((count : ℕ)
+        × (text.new.items ≡ text.old.items ++ take count (line.now ++ line_feed ∷ []))) }
 {
     text.extend_from_slice(line)?;
     text.push(b'\n')?;

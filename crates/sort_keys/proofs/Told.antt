@@ -1,12 +1,14 @@
 -- How lists of numbers stand to each other where the first place in which they differ is in both of them.
-use Rattle.std.proofs.Common.{◌≡◌, ◌⊎◌, inl, inr, ◌+◌, ◌-◌, ◌*◌, ◌<◌, ℕ, zero, suc, List, [], ◌∷◌, ◌++◌, drop, map, refl, sym, ◌∙◌, arith}
+use Rattle.std.proofs.Common.{◌≡◌, ◌⊎◌, inl, inr, ◌+◌, ◌-◌, ◌*◌, ◌<◌, ℕ, zero, suc, List, [], ◌∷◌, ◌++◌, drop, map, refl, sym, ap, subst, ◌∙◌, arith}
 use Rattle.std.specs.declared.cmp.Ordering.{Ordering}
 use Rattle.std.specs.declared.cmp.Ordering.TheVariants.{Less, Equal, Greater}
 use Rattle.std.specs.Ordering.{nat_cmp, ordering_reverse, ordering_then}
 use Rattle.std.specs.Cmp.Lexicographic.{slice_cmp}
 use Rattle.std.specs.List.{AllByRecursion}
+use Rattle.std.proofs.lemmas.Bool.{cases_order}
 use Rattle.std.proofs.lemmas.Bool.Decides.{nat_tests}
 use Rattle.std.proofs.lemmas.List.{drop-drop}
+use Rattle.sort_keys.specs.Laws.{ArePartsInOrder, IsBeginning}
 use Rattle.sort_keys.specs.SortKeys.{parts_of, parts_order, with_digits}
 
 pub less-is : (m k : ℕ) → m < k → nat_cmp m k ≡ Less
@@ -108,3 +110,31 @@ parts-tell {o = o} {s = s} {t = t} h a b =
             | inr rest ↦ rw (next.0, rest.0) (λ i. slice_cmp nat_cmp (sym (drop-drop 16 16 s) i) (sym (drop-drop 16 16 t) i)) ∙ told-order rest.1
           ]
     ]
+
+-- ---- lists of which neither is the beginning of the other
+
+first-tells : (x y : ℕ) (s t : List ℕ) → (x ≡ y) ⊎ ((x < y) ⊎ (y < x)) → (x ≡ y → Told (slice_cmp nat_cmp s t) s t) → Told (ordering_then (nat_cmp x y) (slice_cmp nat_cmp s t)) (x ∷ s) (y ∷ t)
+first-tells x y s t (inl e) next =
+    let o = slice_cmp nat_cmp s t in
+    subst (λ (k : ℕ). Told (ordering_then (nat_cmp x k) o) (x ∷ s) (k ∷ t)) e
+    (subst (λ (p : Ordering). Told (ordering_then p o) (x ∷ s) (x ∷ t)) (sym (equal-is x)) (behind (next e)))
+first-tells x y s t (inr (inl h)) next = subst (λ (p : Ordering). Told (ordering_then p (slice_cmp nat_cmp s t)) (x ∷ s) (y ∷ t)) (sym (less-is x y h)) (less h)
+first-tells x y s t (inr (inr h)) next = subst (λ (p : Ordering). Told (ordering_then p (slice_cmp nat_cmp s t)) (x ∷ s) (y ∷ t)) (sym (greater-is x y h)) (greater h)
+
+-- a number more in front of both
+longer : (x : ℕ) (s t : List ℕ) → IsBeginning s t → IsBeginning (x ∷ s) (x ∷ t)
+longer x s t (b, (more, e)) = (b, (more, ap (λ u. x ∷ u) e))
+
+apart-tell : (s t : List ℕ) → ¬ IsBeginning s t → ¬ IsBeginning t s → Told (slice_cmp nat_cmp s t) s t
+apart-tell [] [] a b = alike
+apart-tell [] (y ∷ t) a b = absurd (a (y, (t, refl)))
+apart-tell (x ∷ s) [] a b = absurd (b (x, (s, refl)))
+apart-tell (x ∷ s) (y ∷ t) a b =
+    first-tells x y s t (cases_order x y)
+    (λ e. apart-tell s t
+    (λ i. a (subst (λ (k : ℕ). IsBeginning (x ∷ s) (k ∷ t)) e (longer x s t i)))
+    (λ i. b (subst (λ (k : ℕ). IsBeginning (k ∷ t) (x ∷ s)) e (longer x t s i))))
+
+-- their parts stand as they do
+pub parts-apart : (s t : List ℕ) → ArePartsInOrder s t
+parts-apart s t x y a b = parts-tell (apart-tell s t a b) x y

@@ -14,6 +14,6 @@ mod split;
 
 pub use code::{put_index, put_key_value, put_value, put_values};
 pub use decode::values_of;
-pub use laws::codes_law;
+pub use laws::{codes_law, parts_law};
 pub use sort_key::SortKey;
 pub use split::split_code;

@@ -74,7 +74,12 @@ impl SortKey {
         })
     }
 
-    /// How two keys stand to each other: as their codes do, byte by byte.
+    /// How two keys stand to each other: as the first 32 bytes of their codes, with zeros behind a shorter one, and then
+    /// as the bytes behind these, one by one.
+    ///
+    /// So the codes 1 and 1 0 are the same here. No code of a value is the beginning of another one (`codes_law`), so
+    /// the codes of equally many values are never such. Where neither of two codes is the beginning of the other, this
+    /// is their order byte by byte (`parts_law`).
     ///
     /// Example: the key of the bytes 1 and 2 is before that of the byte 3.
     pub fn compare(&self, other: &SortKey) -> Ordering

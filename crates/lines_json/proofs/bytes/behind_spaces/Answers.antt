@@ -1,5 +1,6 @@
 use Rattle.std.proofs.Common.{◌≡◌, ◌<◌, length, get_or, true, sym, ap, ◌∙◌, arith}
 use Rattle.std.proofs.lemmas.List.{get_or_default}
+use Rattle.std.proofs.lemmas.List.Sums.{prefix_len-drop_yes}
 use Rattle.json.specs.Word.{is_space}
 use Rattle.lines_json.proofs.Lexemes.{lexemes-space}
 use Rattle.lines_json.proofs.bytes.behind_spaces.Goals as goal
@@ -13,5 +14,6 @@ spaces-preserved c =
     record {
       later = omega (arith, c.spaces.invariant.later);
       within = omega arith;
+      spaces_left = omega (arith, prefix_len-drop_yes is_space text at 32 below blank, c.spaces.invariant.spaces_left);
       same = sym (lexemes-space text at below blank) ∙ c.spaces.invariant.same;
     }

@@ -1,4 +1,6 @@
-use Rattle.std.proofs.Common.{◌≡◌, ◌-◌, ◌≤◌, length}
+use Rattle.std.proofs.Common.{◌≡◌, ◌+◌, ◌-◌, ◌≤◌, drop, length}
+use Rattle.std.specs.List.{prefix_len}
+use Rattle.json.specs.Word.{is_space}
 use Rattle.lines_json.specs.Standing.{lexemes}
 use Rattle.lines_json.proofs.bytes.behind_spaces.Given as goal
 
@@ -6,6 +8,7 @@ abbrev pub invariant-spaces : goal.invariant-spaces
 invariant-spaces l = record {
   later : l.from ≤ l.at;
   within : l.at ≤ length l.text;
+  spaces_left : l.at + prefix_len is_space (drop l.at l.text) ≡ l.from + prefix_len is_space (drop l.from l.text);
   same : lexemes l.text l.at ≡ lexemes l.text l.from;
 }
 

@@ -107,10 +107,10 @@ value_end-returns-in-91 t c =
 pub value_end-returns-in_ok-bool_at-in-116 : goal.value_end-returns-in_ok-bool_at-in-116
 value_end-returns-in_ok-bool_at-in-116 t c =
     let found = c.in_ok-bool_at-in-116.field-0 in
-    value-boolean c.args.text.now c.args.depth c.args.at (found.1) (found.0) c.in_ok-bool_at-in-116.ensures
+    value-boolean c.args.text.now c.args.depth c.args.at (found.1) (found.0) c.in_ok-bool_at-in-116.ensures.stands
 
 pub value_end-returns-in-110 : goal.value_end-returns-in-110
-value_end-returns-in-110 t c = IfSome_then c.null_end.result c.null_end.ensures (λ stop n. value-null c.args.text.now c.args.depth c.args.at stop n)
+value_end-returns-in-110 t c = IfSome_then c.null_end.result c.null_end.ensures.stands (λ stop n. value-null c.args.text.now c.args.depth c.args.at stop n)
 
 pub value_end-returns-in_default : goal.value_end-returns-in_default
 value_end-returns-in_default t c = IfSome_then c.number_end.result c.number_end.ensures (λ stop n. value-number c.args.text.now c.args.depth c.args.at stop (n.0) (n.1) (n.2))

@@ -8,4 +8,4 @@ use Rattle.lines.proofs.Placing.{null_taken}
 use Rattle.lines.proofs.bytes.taking.null_at.Goals as goal
 
 pub returns : goal.returns
-returns c = λ kind. token-taken c.args.line.now kind c.args.at c.in_ok-stop.stop value.Null token.null null c.in_ok-stop.ensures placed-null (λ rest. first-null 126 rest) (null_taken kind)
+returns c = λ kind. token-taken c.args.line.now kind c.args.at c.in_ok-stop.stop value.Null token.null null c.in_ok-stop.ensures.stands placed-null (λ rest. first-null 126 rest) (null_taken kind)

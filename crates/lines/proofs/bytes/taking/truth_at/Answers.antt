@@ -11,4 +11,4 @@ use Rattle.lines.proofs.bytes.taking.truth_at.Goals as goal
 pub returns : goal.returns
 returns c =
     let truth = c.in_ok-truth.truth in
-    token-taken c.args.line.now kind.Bool c.args.at c.in_ok-truth.stop (value.Bool truth) (token.boolean truth) (boolean truth) c.in_ok-truth.ensures (placed-boolean truth) (λ rest. first-boolean 126 truth rest) refl
+    token-taken c.args.line.now kind.Bool c.args.at c.in_ok-truth.stop (value.Bool truth) (token.boolean truth) (boolean truth) c.in_ok-truth.ensures.stands (placed-boolean truth) (λ rest. first-boolean 126 truth rest) refl
