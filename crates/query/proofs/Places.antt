@@ -1,5 +1,5 @@
 -- Where tokens begin.
-use Rattle.std.proofs.Common.{◌≡◌, ℕ, zero, suc, List, [], ◌∷◌, ◌++◌, Some, ◌-◌, length, refl, sym, ap, subst, arith}
+use Rattle.std.proofs.Common.{◌≡◌, ℕ, zero, suc, List, [], ◌∷◌, ◌++◌, Some, ◌-◌, ◌≤◌, length, refl, sym, ap, subst, arith}
 use Rattle.std.specs.Prelude.{slice_get}
 use Rattle.semantics.specs.declared.token.Token.{Token}
 use Rattle.semantics.specs.Tokens.{SpellsFrom, Spells}
@@ -11,6 +11,10 @@ pub starts_of_all : {n : ℕ} {bs starts : List ℕ} {ks : List Token} → Spell
 starts_of_all SpellsFrom.end = refl
 starts_of_all (SpellsFrom.space e s) = starts_of_all s
 starts_of_all (SpellsFrom.token t s) = ap suc (starts_of_all s)
+
+-- There are as many bytes as tokens, so tokens that are there begin somewhere.
+pub room_of : (text starts : List ℕ) (ks all : List Token) (left : ℕ) → Spells text ks starts → all ≡ ks → left ≤ length all → left ≤ length starts
+room_of text starts ks all left s e h = omega (arith, starts_of_all s, ap length e)
 
 -- A byte before the last.
 pub place_before : (xs : List ℕ) (last place byte : ℕ) → slice_get xs place ≡ Some byte → slice_get (xs ++ last ∷ []) place ≡ Some byte

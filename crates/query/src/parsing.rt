@@ -1,6 +1,6 @@
 //! Reading a query.
 
-ghost use Rattle.std.specs.Prelude.{◌≡◌, ◌<◌, ◌-◌, ◌⊎◌, [], ◌∷◌, ◌++◌, ℕ, Err, IfErr, IfOk, MatchResult, Some, length, slice_get, vec_len};
+ghost use Rattle.std.specs.Prelude.{◌≡◌, ◌<◌, ◌≤◌, ◌-◌, ◌⊎◌, [], ◌∷◌, ◌++◌, ℕ, Err, IfErr, IfOk, MatchResult, Some, length, slice_get, vec_len};
 ghost use Rattle.semantics.specs.declared.query_fault.QueryFault.TheVariants.{OutOfMemory, OverLimit};
 ghost use Rattle.semantics.specs.Syntax.{TreeForm};
 ghost use Rattle.semantics.specs.Reading.{Derives, IsRefusalOf, Refuses};
@@ -55,7 +55,7 @@ pub fn parse(alloc: Global, text: &str) -> Result<Query, QueryFault>
             let byte = start_of_last(&tokens, left, text.len());
             Err(QueryFault::Unexpected(byte))
         }
-        Err(GrammarFault::OverLimit(_)) => Err(QueryFault::OverLimit),
+        Err(GrammarFault::OverLimit) => Err(QueryFault::OverLimit),
         Err(GrammarFault::OutOfMemory) => Err(QueryFault::OutOfMemory),
     }
 }
@@ -63,10 +63,11 @@ pub fn parse(alloc: Global, text: &str) -> Result<Query, QueryFault>
 /// The byte where the first of the last so many tokens begins, or the end where there is none.
 #[tactic(auto, using(crate::proofs::Places::place_before, crate::proofs::Places::place_last))]
 fn start_of_last(tokens: &Tokens, count: usize, end: usize) -> usize
+    requires { count ≤ vec_len tokens.now.starts }
     ensures { slice_get (tokens.now.starts.items ++ end ∷ []) (vec_len tokens.now.starts - count)
         ≡ Some result }
 {
-    let place = tokens.starts.len().saturating_sub(count);
+    let place = tokens.starts.len() - count;
     match tokens.starts.get(place) {
         Some(byte) => *byte,
         None => end,

@@ -5,8 +5,8 @@ use Rattle.semantics.specs.declared.token.Token.{Token}
 use Rattle.semantics.specs.declared.token.Sign.TheVariants as s
 use Rattle.query_lexer.specs.Options.{choose}
 use Rattle.semantics.specs.Leaves.{Limits}
-use Rattle.query_parser.specs.declared.fault.GrammarFault.{GrammarFault}
-use Rattle.query_parser.specs.declared.fault.GrammarFault.TheVariants as faults
+use Rattle.query_parser.specs.Stops.{Stop}
+use Rattle.query_parser.specs.Stops as halts
 use Rattle.query_parser.specs.Fronts.{is_sign, after}
 use Rattle.query_parser.specs.Steps.{◌>>=◌, Reader, unexpected_at, found_or_unexpected, excess, with_front, more, listed_at, name_at, begins_name}
 use Rattle.query_parser.specs.LeafSteps.{arguments_at, literal_at, begins_literal, literals_at}
@@ -28,31 +28,31 @@ wider_same limits = record { items = omega arith; arguments = omega arith; liter
 -- ---- results
 
 -- Both give the same, or the first one finds too much.
-pub data Agrees {A : Type 0} : Result A GrammarFault → Result A GrammarFault → Type 0 where
-  same : {r : Result A GrammarFault} → Agrees r r
-  over : {n : ℕ} {r : Result A GrammarFault} → Agrees (Err (faults.OverLimit n)) r
+pub data Agrees {A : Type 0} : Result A Stop → Result A Stop → Type 0 where
+  same : {r : Result A Stop} → Agrees r r
+  over : {n : ℕ} {r : Result A Stop} → Agrees (Err (halts.over_limit n)) r
 
 -- One step and then another.
-pub agrees_bind : {A B : Type 0} {o p : Result A GrammarFault} {f g : A → Result B GrammarFault} → Agrees o p → ((x : A) → Agrees (f x) (g x)) → Agrees (o >>= f) (p >>= g)
+pub agrees_bind : {A B : Type 0} {o p : Result A Stop} {f g : A → Result B Stop} → Agrees o p → ((x : A) → Agrees (f x) (g x)) → Agrees (o >>= f) (p >>= g)
 agrees_bind (Agrees.same {r = Ok x}) h = h x
 agrees_bind (Agrees.same {r = Err e}) h = Agrees.same
 agrees_bind Agrees.over h = Agrees.over
 
 -- One choice, with two ways on either side.
-pub agrees_choose : {A B : Type 0} (o : Option A) {n m : Result B GrammarFault} {f g : A → Result B GrammarFault} → Agrees n m → ((x : A) → Agrees (f x) (g x)) → Agrees (choose o n f) (choose o m g)
+pub agrees_choose : {A B : Type 0} (o : Option A) {n m : Result B Stop} {f g : A → Result B Stop} → Agrees n m → ((x : A) → Agrees (f x) (g x)) → Agrees (choose o n f) (choose o m g)
 agrees_choose None h k = h
 agrees_choose (Some x) h k = k x
 
 -- ---- lists
 
 -- What was read before is the same on both sides.
-agrees_front : {A : Type 0} (front : List A) {o p : Result (List A × List Token) GrammarFault} → Agrees o p → Agrees (with_front front o) (with_front front p)
+agrees_front : {A : Type 0} (front : List A) {o p : Result (List A × List Token) Stop} → Agrees o p → Agrees (with_front front o) (with_front front p)
 agrees_front front h = agrees_bind h (λ x. Agrees.same)
 
 -- Where a part is too many, the reader of wider limits stops too unless a part begins.
-agrees_excess : {A B : Type 0} (begins : List Token → Bool) (wide_part : Reader A) (next : A × List Token → Result B GrammarFault) (ts : List Token) → (begins ts ≡ false → wide_part ts ≡ unexpected_at ts) → Agrees (Err (excess begins ts)) (wide_part ts >>= next)
+agrees_excess : {A B : Type 0} (begins : List Token → Bool) (wide_part : Reader A) (next : A × List Token → Result B Stop) (ts : List Token) → (begins ts ≡ false → wide_part ts ≡ unexpected_at ts) → Agrees (Err (excess begins ts)) (wide_part ts >>= next)
 agrees_excess {A} {B} begins wide_part next ts stops = of_test (begins ts) stops where
-  of_test : (b : Bool) → (b ≡ false → wide_part ts ≡ unexpected_at ts) → Agrees (Err (cond b (faults.OverLimit (length ts)) (faults.Unexpected (length ts)))) (wide_part ts >>= next)
+  of_test : (b : Bool) → (b ≡ false → wide_part ts ≡ unexpected_at ts) → Agrees (Err (cond b (halts.over_limit (length ts)) (halts.unexpected (length ts)))) (wide_part ts >>= next)
   of_test true h = Agrees.over
   of_test false h = rw (h refl) Agrees.same
 
@@ -114,11 +114,11 @@ pub wider_other : (one other : Limits) → Wider other (both one other)
 wider_other one other = record { items = omega arith; arguments = omega arith; literals = omega arith; levels = omega arith; sets = omega arith }
 
 -- A token that is not expected within narrow limits is not expected within wider ones.
-pub agrees_unexpected : {A : Type 0} {o p : Result A GrammarFault} → Agrees o p → (left : ℕ) → o ≡ Err (faults.Unexpected left) → p ≡ Err (faults.Unexpected left)
+pub agrees_unexpected : {A : Type 0} {o p : Result A Stop} → Agrees o p → (left : ℕ) → o ≡ Err (halts.unexpected left) → p ≡ Err (halts.unexpected left)
 agrees_unexpected Agrees.same left e = e
 agrees_unexpected Agrees.over left e = absurd cc
 
 -- What is read within narrow limits is read within wider ones.
-pub agrees_ok : {A : Type 0} {o p : Result A GrammarFault} → Agrees o p → (x : A) → o ≡ Ok x → p ≡ Ok x
+pub agrees_ok : {A : Type 0} {o p : Result A Stop} → Agrees o p → (x : A) → o ≡ Ok x → p ≡ Ok x
 agrees_ok Agrees.same x e = e
 agrees_ok Agrees.over x e = absurd cc

@@ -6,7 +6,7 @@ use Rattle.semantics.specs.declared.token.Word.TheVariants as w
 use Rattle.semantics.specs.declared.token.Sign.TheVariants as s
 use Rattle.semantics.specs.Syntax.{OperandForm}
 use Rattle.semantics.specs.Leaves.{Limits}
-use Rattle.query_parser.specs.declared.fault.GrammarFault.{GrammarFault}
+use Rattle.query_parser.specs.Stops.{Stop}
 use Rattle.query_parser.specs.Fronts.{is_word, is_sign, after}
 use Rattle.query_parser.specs.Steps.{unexpected_at, over, name_at}
 use Rattle.query_parser.specs.LeafSteps.{aggregate_at, literal_at, op_at}
@@ -16,7 +16,7 @@ use Rattle.query_parser.specs.PredicateSteps.{test_at, negation_at, conjunction_
 use Rattle.query_parser.proofs.Agree.{Wider, Agrees, agrees_bind, agrees_choose, agrees_all, arguments_agree, literals_agree}
 
 -- Where no level is left, it is too much.
-agrees_level : {A : Type 0} (left wide_left : Bool) → (left ≡ true → wide_left ≡ true) → {o p : Result A GrammarFault} (ts : List Token) → Agrees o p → Agrees (cond left o (over ts)) (cond wide_left p (over ts))
+agrees_level : {A : Type 0} (left wide_left : Bool) → (left ≡ true → wide_left ≡ true) → {o p : Result A Stop} (ts : List Token) → Agrees o p → Agrees (cond left o (over ts)) (cond wide_left p (over ts))
 agrees_level false wide_left h ts k = Agrees.over
 agrees_level true true h ts k = k
 agrees_level true false h ts k = absurd (let e = h refl in cc)

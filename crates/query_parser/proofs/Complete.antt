@@ -146,7 +146,7 @@ whole_c wider ts q d = rw (query_c wider d nil_ends_query) refl
 pub read : (ts : List Token) (r : Result (Box Tree Global) GrammarFault) → Gives (λ t. tree_form t.value) r (whole_at standard ts) → (q : TreeForm) → DerivesWithin standard ts q → MatchResult r (λ t. tree_form t.value ≡ q) (λ e. e ≡ faults.OutOfMemory)
 read ts (Ok t) e q d = ok_is (tree_form t.value) q (sym e ∙ whole_c (wider_same standard) ts q d)
 read ts (Err faults.OutOfMemory) e q d = refl
-read ts (Err (faults.OverLimit n)) e q d = absurd (let k = whole_c (wider_same standard) ts q d in cc)
+read ts (Err faults.OverLimit) (n, e) q d = absurd (let k = whole_c (wider_same standard) ts q d in cc)
 read ts (Err (faults.Unexpected n)) e q d = absurd (let k = whole_c (wider_same standard) ts q d in cc)
 
 -- No tokens derive two queries: what they derive is what is read of them.

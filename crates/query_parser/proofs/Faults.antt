@@ -15,11 +15,13 @@ use Rattle.semantics.specs.Leaves.{Limits, standard}
 use Rattle.semantics.specs.Grammar.{DerivesWithin}
 use Rattle.semantics.specs.Prefixes.{BeginsWithin, Begins, KeepsLimits, IsUnexpected, IsOverLimit}
 use Rattle.query_parser.specs.declared.fault.GrammarFault.{GrammarFault}
+use Rattle.query_parser.specs.Stops.{Stop}
 use Rattle.query_parser.specs.declared.fault.GrammarFault.TheVariants as faults
+use Rattle.query_parser.specs.Stops as halts
 use Rattle.query_parser.specs.Steps.{Gives}
 use Rattle.query_parser.specs.QuerySteps.{whole_at}
 use Rattle.query_parser.proofs.LocalQuery.{left_within, continues_none_at, derives_none_at, begins_none_at}
-use Rattle.query_parser.proofs.ViableWhole.{read_derives, read_sure, begins_unexpected, keeps_unexpected, over_front, exceeds}
+use Rattle.query_parser.proofs.ViableWhole.{read_derives, begins_unexpected, keeps_unexpected, over_front, exceeds}
 
 -- A number is at most another, or greater.
 pub at_most_or : (i n : ℕ) → (i ≤ n) ⊎ (n < i)
@@ -92,16 +94,16 @@ derived_keeps ts q d o = o.exceeds (KeepsLimits.begins record { rest = drop o.pl
 
 -- ---- where the reader stops
 
-unexpected_at : (ts : List Token) (left : ℕ) → whole_at standard ts ≡ Err (faults.Unexpected left) → IsUnexpected ts (length ts - left)
+unexpected_at : (ts : List Token) (left : ℕ) → whole_at standard ts ≡ Err (halts.unexpected left) → IsUnexpected ts (length ts - left)
 unexpected_at ts left e = record {
-  inside = omega (arith, left_within standard ts (faults.Unexpected left) e);
+  inside = omega (arith, left_within standard ts (halts.unexpected left) e);
   begins = begins_unexpected ts left e;
   keeps = keeps_unexpected ts left e;
   continues_none = λ h b. continues_none_at ts left e h b;
   derives_none = λ limits q d. derives_none_at ts left e limits q d;
 }
 
-over_at : (ts : List Token) (left : ℕ) → whole_at standard ts ≡ Err (faults.OverLimit left) → IsOverLimit ts
+over_at : (ts : List Token) (left : ℕ) → whole_at standard ts ≡ Err (halts.over_limit left) → IsOverLimit ts
 over_at ts left e =
     let o = over_front ts left e in
     let front_is : take (length o.front) ts ≡ o.front = ap (take (length o.front)) o.is ∙ take-append_seam o.front o.back in
@@ -113,19 +115,27 @@ over_at ts left e =
       exceeds = λ k. begins_none_at ts left e (subst (BeginsWithin standard) (take_fewer (length ts - left) (length o.front) ts sooner) (begins_sooner (subst (BeginsWithin standard) (sym front_is) (exceeds o.front o.counts (subst KeepsLimits front_is k))) (length ts - left)));
     }
 
--- A token, or the end, that is not expected continues no query.
+-- A token, or the end, that is not expected is where reading stops.
+stops_unexpected : {X : Type 0} (view : X → TreeForm) (ts : List Token) (r : Result X GrammarFault) → Gives view r (whole_at standard ts) → (left : ℕ) → r ≡ Err (faults.Unexpected left) → whole_at standard ts ≡ Err (halts.unexpected left)
+stops_unexpected view ts (Ok x) g left e = absurd cc
+stops_unexpected view ts (Err faults.OutOfMemory) g left e = absurd cc
+stops_unexpected view ts (Err faults.OverLimit) g left e = absurd cc
+stops_unexpected view ts (Err (faults.Unexpected n)) g left e = let h : n ≡ left = cc in g ∙ ap (λ (m : ℕ). Err (halts.unexpected m)) h
+
+-- It continues no query.
 pub unexpected : {X : Type 0} (view : X → TreeForm) (ts : List Token) (r : Result X GrammarFault) → Gives view r (whole_at standard ts) → (left : ℕ) → r ≡ Err (faults.Unexpected left) → IsUnexpected ts (length ts - left)
-unexpected view ts (Ok x) g left e = absurd cc
-unexpected view ts (Err faults.OutOfMemory) g left e = absurd cc
-unexpected view ts (Err (faults.OverLimit n)) g left e = absurd cc
-unexpected view ts (Err (faults.Unexpected n)) g left e = let h : n ≡ left = cc in unexpected_at ts left (g ∙ ap (λ (m : ℕ). Err (faults.Unexpected m)) h)
+unexpected view ts r g left e = unexpected_at ts left (stops_unexpected view ts r g left e)
+
+-- It is one of these tokens, or the end.
+pub within : {X : Type 0} (view : X → TreeForm) (ts : List Token) (r : Result X GrammarFault) → Gives view r (whole_at standard ts) → (left : ℕ) → r ≡ Err (faults.Unexpected left) → left ≤ length ts
+within view ts r g left e = left_within standard ts (halts.unexpected left) (stops_unexpected view ts r g left e)
 
 -- Where it is too much, the tokens in front begin a query that does not keep the limits.
-pub over_limit : {X : Type 0} (view : X → TreeForm) (ts : List Token) (r : Result X GrammarFault) → Gives view r (whole_at standard ts) → (left : ℕ) → r ≡ Err (faults.OverLimit left) → IsOverLimit ts
-over_limit view ts (Ok x) g left e = absurd cc
-over_limit view ts (Err faults.OutOfMemory) g left e = absurd cc
-over_limit view ts (Err (faults.OverLimit n)) g left e = over_at ts n g
-over_limit view ts (Err (faults.Unexpected n)) g left e = absurd cc
+pub over_limit : {X : Type 0} (view : X → TreeForm) (ts : List Token) (r : Result X GrammarFault) → Gives view r (whole_at standard ts) → r ≡ Err faults.OverLimit → IsOverLimit ts
+over_limit view ts (Ok x) g e = absurd cc
+over_limit view ts (Err faults.OutOfMemory) g e = absurd cc
+over_limit view ts (Err faults.OverLimit) g e = over_at ts g.0 g.1
+over_limit view ts (Err (faults.Unexpected n)) g e = absurd cc
 
 -- What is read is derived.
 pub derived : (ts : List Token) (r : Result (Box Tree Global) GrammarFault) → Gives (λ t. tree_form t.value) r (whole_at standard ts) → IfOk r (λ t. DerivesWithin standard ts (tree_form t.value))
@@ -135,8 +145,7 @@ derived ts (Err e) h = tt
 -- Tokens derive a query, or go wrong somewhere, or are of too much.
 pub decided : (ts : List Token) → ((q : TreeForm) × DerivesWithin standard ts q) ⊎ (((place : ℕ) × IsUnexpected ts place) ⊎ IsOverLimit ts)
 decided ts = of_read (whole_at standard ts) refl where
-  of_read : (o : Result TreeForm GrammarFault) → whole_at standard ts ≡ o → ((q : TreeForm) × DerivesWithin standard ts q) ⊎ (((place : ℕ) × IsUnexpected ts place) ⊎ IsOverLimit ts)
+  of_read : (o : Result TreeForm Stop) → whole_at standard ts ≡ o → ((q : TreeForm) × DerivesWithin standard ts q) ⊎ (((place : ℕ) × IsUnexpected ts place) ⊎ IsOverLimit ts)
   of_read (Ok q) e = inl (q, read_derives ts q e)
-  of_read (Err faults.OutOfMemory) e = absurd (read_sure ts e)
-  of_read (Err (faults.OverLimit left)) e = inr (inr (over_at ts left e))
-  of_read (Err (faults.Unexpected left)) e = inr (inl (length ts - left, unexpected_at ts left e))
+  of_read (Err (halts.over_limit left)) e = inr (inr (over_at ts left e))
+  of_read (Err (halts.unexpected left)) e = inr (inl (length ts - left, unexpected_at ts left e))

@@ -1,6 +1,7 @@
 mod Heads
 mod Inversions
 mod More
+mod Levels
 mod CompleteLists
 mod CompleteLeaves
 mod Local

@@ -2,8 +2,8 @@
 use Rattle.std.proofs.Common.{arith, length, ◌<◌, ◌≤◌, ◌+◌, ◌≡◌, ◌⊎◌, inl, inr, ℕ, zero, suc, Bool, true, false, cond, List, [], ◌∷◌, ◌++◌, Option, Some, None, Result, Ok, Err, refl, sym, ap, subst, ◌∙◌}
 use Rattle.semantics.specs.declared.token.Token.{Token}
 use Rattle.query_lexer.specs.Options.{choose}
-use Rattle.query_parser.specs.declared.fault.GrammarFault.{GrammarFault}
-use Rattle.query_parser.specs.declared.fault.GrammarFault.TheVariants as faults
+use Rattle.query_parser.specs.Stops.{Stop}
+use Rattle.query_parser.specs.Stops as halts
 use Rattle.query_parser.specs.Fronts.{after}
 use Rattle.query_parser.specs.Steps.{◌>>=◌, Reader, unexpected_at, over, found_or_unexpected, excess, with_front, more}
 use Rattle.query_parser.proofs.Inversions.{bind_ok, ok_is}
@@ -126,20 +126,18 @@ split_shares (EndsWith.token {t} {ts} {rest = mid} i) us rest other s short =
 -- ---- local readers
 
 -- How many tokens are left where a fault stands.
-abbrev pub left_of : GrammarFault → ℕ
-left_of faults.OutOfMemory = 0
-left_of (faults.OverLimit n) = n
-left_of (faults.Unexpected n) = n
+abbrev pub left_of : Stop → ℕ
+left_of (halts.over_limit n) = n
+left_of (halts.unexpected n) = n
 
 -- The same fault where so many tokens are left.
-abbrev pub moved : GrammarFault → ℕ → GrammarFault
-moved faults.OutOfMemory m = faults.OutOfMemory
-moved (faults.OverLimit n) m = faults.OverLimit m
-moved (faults.Unexpected n) m = faults.Unexpected m
+abbrev pub moved : Stop → ℕ → Stop
+moved (halts.over_limit n) m = halts.over_limit m
+moved (halts.unexpected n) m = halts.unexpected m
 
 -- A result that is a fault.
-pub record Fault {A : Type 0} (read : Result A GrammarFault) : Type 0 where
-  pub fault : GrammarFault
+pub record Fault {A : Type 0} (read : Result A Stop) : Type 0 where
+  pub fault : Stop
   pub is : read ≡ Err fault
 
 -- What a reader finds in front of these tokens it finds in front of all that have the same front, and stops at the same
@@ -147,10 +145,10 @@ pub record Fault {A : Type 0} (read : Result A GrammarFault) : Type 0 where
 pub record LocalAt {A : Type 0} (strict : Bool) (f : Reader A) (ts : List Token) : Type 0 where
   pub goes : (x : A) (rest : List Token) → f ts ≡ Ok (x, rest) → EndsWith ts rest
   pub same : (us rest other : List Token) (x : A) → f ts ≡ Ok (x, rest) → SameFront ts us rest other → f us ≡ Ok (x, other)
-  pub within : (e : GrammarFault) → f ts ≡ Err e → left_of e ≤ length ts
-  pub stops : (us rest other : List Token) (e : GrammarFault) → f ts ≡ Err e → SameFront ts us rest other → left_of e ≡ length rest → f us ≡ Err (moved e (length other))
-  pub past : (n : ℕ) → strict ≡ true → f ts ≡ Err (faults.OverLimit n) → n < length ts
-  pub over : (us rest other : List Token) → f ts ≡ Err (faults.OverLimit (length rest)) → Shares ts us rest other → Fault (f us)
+  pub within : (e : Stop) → f ts ≡ Err e → left_of e ≤ length ts
+  pub stops : (us rest other : List Token) (e : Stop) → f ts ≡ Err e → SameFront ts us rest other → left_of e ≡ length rest → f us ≡ Err (moved e (length other))
+  pub past : (n : ℕ) → strict ≡ true → f ts ≡ Err (halts.over_limit n) → n < length ts
+  pub over : (us rest other : List Token) → f ts ≡ Err (halts.over_limit (length rest)) → Shares ts us rest other → Fault (f us)
 
 abbrev pub Local : {A : Type 0} → Bool → Reader A → Type 0
 Local strict f = (ts : List Token) → LocalAt strict f ts
@@ -178,18 +176,17 @@ local_as f g e l ts = record {
 }
 
 -- A fault, as a result.
-abbrev failed : {A : Type 0} → GrammarFault → Result A GrammarFault
+abbrev failed : {A : Type 0} → Stop → Result A Stop
 failed e = Err e
 
-fault_is : {A : Type 0} (d e : GrammarFault) → failed {A = A} d ≡ failed e → d ≡ e
+fault_is : {A : Type 0} (d e : Stop) → failed {A = A} d ≡ failed e → d ≡ e
 fault_is d e h = cc
 
-moved_same : (e : GrammarFault) → moved e (left_of e) ≡ e
-moved_same faults.OutOfMemory = refl
-moved_same (faults.OverLimit n) = refl
-moved_same (faults.Unexpected n) = refl
+moved_same : (e : Stop) → moved e (left_of e) ≡ e
+moved_same (halts.over_limit n) = refl
+moved_same (halts.unexpected n) = refl
 
-moved_left : (e : GrammarFault) (n : ℕ) → left_of e ≡ n → moved e n ≡ e
+moved_left : (e : Stop) (n : ℕ) → left_of e ≡ n → moved e n ≡ e
 moved_left e n h = subst (λ m. moved e m ≡ e) h (moved_same e)
 
 -- At the end of the tokens.
@@ -220,7 +217,7 @@ local_head {A} f n t ts e l = record {
       let b = shares_behind s t ts refl (omega (arith, short)) in
       record { fault = k.fault; is = as_n us b.behind b.us_is k.is });
 } where
-  as_n : (us behind : List Token) {r : Result (A × List Token) GrammarFault} → us ≡ t ∷ behind → n us ≡ r → f us ≡ r
+  as_n : (us behind : List Token) {r : Result (A × List Token) Stop} → us ≡ t ∷ behind → n us ≡ r → f us ≡ r
   as_n us behind i h = ap f i ∙ (e behind ∙ (ap n (sym i) ∙ h))
 
 -- Where the first token is taken.
@@ -238,8 +235,8 @@ local_token {A} f g t ts e l = record {
         | inl k ↦ absurd (omega (arith, ap length k, i, h))
         | inr k ↦ ap f b.us_is ∙ (e b.behind ∙ l.stops b.behind rest other m (sym (e ts) ∙ d) k h)
       ]);
-  past = λ m h d. (let k = l.within (faults.OverLimit m) (sym (e ts) ∙ d) in omega (arith, k));
-  over = λ us rest other d s. (let i = l.within (faults.OverLimit (length rest)) (sym (e ts) ∙ d) in
+  past = λ m h d. (let k = l.within (halts.over_limit m) (sym (e ts) ∙ d) in omega (arith, k));
+  over = λ us rest other d s. (let i = l.within (halts.over_limit (length rest)) (sym (e ts) ∙ d) in
       let b = shares_behind s t ts refl i in
       let k = l.over b.behind rest other (sym (e ts) ∙ d) b.shares in
       record { fault = k.fault; is = ap f b.us_is ∙ (e b.behind ∙ k.is) });
@@ -261,7 +258,7 @@ local_ok {A} x ts = record {
 }
 
 -- A reader that stops at once.
-pub local_stop : {A : Type 0} (c : Bool) (f : Reader A) (kind : ℕ → GrammarFault) → ((n m : ℕ) → c ≡ true → kind n ≡ faults.OverLimit m → m < n) → ((n : ℕ) → left_of (kind n) ≡ n) → ((n m : ℕ) → moved (kind n) m ≡ kind m) → ((ts : List Token) → f ts ≡ Err (kind (length ts))) → Local c f
+pub local_stop : {A : Type 0} (c : Bool) (f : Reader A) (kind : ℕ → Stop) → ((n m : ℕ) → c ≡ true → kind n ≡ halts.over_limit m → m < n) → ((n : ℕ) → left_of (kind n) ≡ n) → ((n m : ℕ) → moved (kind n) m ≡ kind m) → ((ts : List Token) → f ts ≡ Err (kind (length ts))) → Local c f
 local_stop {A} c f kind behind left move is ts = record {
   goes = λ y rest d. absurd (let k = is ts in cc);
   same = λ us rest other y d s. absurd (let k = is ts in cc);
@@ -271,15 +268,15 @@ local_stop {A} c f kind behind left move is ts = record {
       let i = same_whole s (same_length s j) in
       let a = is us in let b = move (length ts) (length other) in
       let j : length us ≡ length other = ap length i in cc);
-  past = λ n h d. behind (length ts) n h (fault_is {A = A × List Token} (kind (length ts)) (faults.OverLimit n) (sym (is ts) ∙ d));
+  past = λ n h d. behind (length ts) n h (fault_is {A = A × List Token} (kind (length ts)) (halts.over_limit n) (sym (is ts) ∙ d));
   over = λ us rest other d s. record { fault = kind (length us); is = is us };
 }
 
 pub local_stuck : {A : Type 0} → Local {A = A} true unexpected_at
-local_stuck {A} = local_stop true unexpected_at (λ n. faults.Unexpected n) (λ n m h e. absurd cc) (λ n. refl) (λ n m. refl) (λ ts. refl)
+local_stuck {A} = local_stop true unexpected_at (λ n. halts.unexpected n) (λ n m h e. absurd cc) (λ n. refl) (λ n m. refl) (λ ts. refl)
 
 pub local_over : {A : Type 0} → Local {A = A} false over
-local_over {A} = local_stop false over (λ n. faults.OverLimit n) (λ n m h e. absurd cc) (λ n. refl) (λ n m. refl) (λ ts. refl)
+local_over {A} = local_stop false over (λ n. halts.over_limit n) (λ n m h e. absurd cc) (λ n. refl) (λ n m. refl) (λ ts. refl)
 
 -- A test of the token in front alone, where nothing stands before it.
 same_test : (b : List Token → Bool) → ((t : Token) (us vs : List Token) → b (t ∷ us) ≡ b (t ∷ vs)) → {ts us rest other : List Token} → SameFront ts us rest other → length ts ≡ length rest → b us ≡ b ts
@@ -297,20 +294,20 @@ local_excess {A} b front ts = record {
       let i : length ts ≡ length rest = sym (left_excess (b ts) (length ts)) ∙ (ap left_of k ∙ h) in
       let whole = same_length s i in
       let us_is : us ≡ other = same_whole s whole in
-      ap failed (ap (λ (c : Bool). cond c (faults.OverLimit (length us)) (faults.Unexpected (length us))) (same_test b front s i) ∙ (sym (moves (b ts) (length ts) (length us)) ∙ (ap (λ (m : GrammarFault). moved m (length us)) k ∙ ap (λ (vs : List Token). moved e (length vs)) us_is))));
+      ap failed (ap (λ (c : Bool). cond c (halts.over_limit (length us)) (halts.unexpected (length us))) (same_test b front s i) ∙ (sym (moves (b ts) (length ts) (length us)) ∙ (ap (λ (m : Stop). moved m (length us)) k ∙ ap (λ (vs : List Token). moved e (length vs)) us_is))));
   past = λ n h d. absurd cc;
   over = λ us rest other d s. record { fault = excess b us; is = refl };
 } where
-  left_excess : (c : Bool) (n : ℕ) → left_of (cond c (faults.OverLimit n) (faults.Unexpected n)) ≡ n
+  left_excess : (c : Bool) (n : ℕ) → left_of (cond c (halts.over_limit n) (halts.unexpected n)) ≡ n
   left_excess true n = refl
   left_excess false n = refl
 
-  moves : (c : Bool) (n m : ℕ) → moved (cond c (faults.OverLimit n) (faults.Unexpected n)) m ≡ cond c (faults.OverLimit m) (faults.Unexpected m)
+  moves : (c : Bool) (n m : ℕ) → moved (cond c (halts.over_limit n) (halts.unexpected n)) m ≡ cond c (halts.over_limit m) (halts.unexpected m)
   moves true n m = refl
   moves false n m = refl
 
 -- Two steps that fail: which one.
-bind_err : {A B : Type 0} (o : Result A GrammarFault) (f : A → Result B GrammarFault) (e : GrammarFault) → (o >>= f) ≡ Err e → (o ≡ Err e) ⊎ ((x : A) × (o ≡ Ok x) × (f x ≡ Err e))
+bind_err : {A B : Type 0} (o : Result A Stop) (f : A → Result B Stop) (e : Stop) → (o >>= f) ≡ Err e → (o ≡ Err e) ⊎ ((x : A) × (o ≡ Ok x) × (f x ≡ Err e))
 bind_err (Ok x) f e d = inr (x, refl, d)
 bind_err {A} {B} (Err n) f e d = inl (ap failed (fault_is {A = B} n e d))
 
@@ -326,27 +323,27 @@ local_bind {A} {B} {c} f g lf lg ts = record {
     | inr a ↦ (let k = ends_short ((lf ts).goes a.0.0 a.0.1 a.1) in let h = (lg a.0.0 a.0.1).within e a.2 in omega (arith, k, h))
   ];
   stops = λ us rest other e d s h. elim (bind_err (f ts) next e d) [
-    | inl k ↦ ap (λ (o : Result (A × List Token) GrammarFault). o >>= next) ((lf ts).stops us rest other e k s h)
+    | inl k ↦ ap (λ (o : Result (A × List Token) Stop). o >>= next) ((lf ts).stops us rest other e k s h)
     | inr a ↦ (let k = (lg a.0.0 a.0.1).within e a.2 in
         let p = split_front ((lf ts).goes a.0.0 a.0.1 a.1) us rest other s (omega (arith, k, h)) in
         then us a.0.0 p.middle ((lf ts).same us a.0.1 p.middle a.0.0 a.1 p.front) ((lg a.0.0 a.0.1).stops p.middle rest other e a.2 p.behind h))
   ];
-  past = λ n h d. elim (bind_err (f ts) next (faults.OverLimit n) d) [
+  past = λ n h d. elim (bind_err (f ts) next (halts.over_limit n) d) [
     | inl k ↦ (lf ts).past n h k
     | inr a ↦ (let k = ends_short ((lf ts).goes a.0.0 a.0.1 a.1) in let i = (lg a.0.0 a.0.1).past n refl a.2 in omega (arith, k, i))
   ];
-  over = λ us rest other d s. elim (bind_err (f ts) next (faults.OverLimit (length rest)) d) [
-    | inl k ↦ (let o = (lf ts).over us rest other k s in record { fault = o.fault; is = ap (λ (r : Result (A × List Token) GrammarFault). r >>= next) o.is })
+  over = λ us rest other d s. elim (bind_err (f ts) next (halts.over_limit (length rest)) d) [
+    | inl k ↦ (let o = (lf ts).over us rest other k s in record { fault = o.fault; is = ap (λ (r : Result (A × List Token) Stop). r >>= next) o.is })
     | inr a ↦ (let p = split_shares ((lf ts).goes a.0.0 a.0.1 a.1) us rest other s ((lg a.0.0 a.0.1).past (length rest) refl a.2) in
         let o = (lg a.0.0 a.0.1).over p.middle rest other a.2 p.behind in
         record { fault = o.fault; is = then us a.0.0 p.middle ((lf ts).same us a.0.1 p.middle a.0.0 a.1 p.front) o.is })
   ];
 } where
-  next : A × List Token → Result (B × List Token) GrammarFault
+  next : A × List Token → Result (B × List Token) Stop
   next y = g y.0 y.1
 
-  then : (us : List Token) (x : A) (mid : List Token) {r : Result (B × List Token) GrammarFault} → f us ≡ Ok (x, mid) → g x mid ≡ r → (f us >>= λ y. g y.0 y.1) ≡ r
-  then us x mid e d = ap (λ (o : Result (A × List Token) GrammarFault). o >>= (λ y. g y.0 y.1)) e ∙ d
+  then : (us : List Token) (x : A) (mid : List Token) {r : Result (B × List Token) Stop} → f us ≡ Ok (x, mid) → g x mid ≡ r → (f us >>= λ y. g y.0 y.1) ≡ r
+  then us x mid e d = ap (λ (o : Result (A × List Token) Stop). o >>= (λ y. g y.0 y.1)) e ∙ d
 
 -- A Bool, with its value.
 value_of : (b : Bool) → (b ≡ true) ⊎ (b ≡ false)
@@ -385,7 +382,7 @@ local_front {A} {X} {c} h n g front ln lg (t ∷ ts) =
       | inr e ↦ local_token (λ ts. choose (h ts) (n ts) (λ x. g x.0 x.1)) (g e.0) t ts (λ us. ap (λ (o : Option (X × List Token)). choose o (n (t ∷ us)) (λ x. g x.0 x.1)) (e.1 us)) (lg e.0 ts)
     ]
 
-found_or_stuck_choice : {A B : Type 0} (o : Option A) (n : GrammarFault) (g : A → Result B GrammarFault) → (choose o (failed n) (λ x. Ok x) >>= g) ≡ choose o (failed n) g
+found_or_stuck_choice : {A B : Type 0} (o : Option A) (n : Stop) (g : A → Result B Stop) → (choose o (failed n) (λ x. Ok x) >>= g) ≡ choose o (failed n) g
 found_or_stuck_choice None n g = refl
 found_or_stuck_choice (Some x) n g = refl
 
@@ -393,7 +390,7 @@ found_or_stuck_choice (Some x) n g = refl
 pub local_found_or_stuck : {A : Type 0} {c : Bool} (test : Token → Bool) (g : Reader A) → Local c g → Local true (λ ts. found_or_unexpected (after test) ts >>= λ a. g a)
 local_found_or_stuck {A} {c} test g lg =
     local_as (λ ts. found_or_unexpected (after test) ts >>= λ a. g a) (λ ts. choose (after test ts) (unexpected_at ts) (λ a. g a))
-    (λ ts. found_or_stuck_choice (after test ts) (faults.Unexpected (length ts)) g) (local_choose test unexpected_at g local_stuck lg)
+    (λ ts. found_or_stuck_choice (after test ts) (halts.unexpected (length ts)) g) (local_choose test unexpected_at g local_stuck lg)
 
 -- A value that has to stand in front.
 pub local_found_or_stuck_front : {X : Type 0} (h : List Token → Option (X × List Token)) → IsFront h → Local true (found_or_unexpected h)
@@ -408,7 +405,7 @@ local_more sep b f front lf (suc n) =
     (local_bind f (λ x us. with_front (x ∷ []) (more sep b f n us)) lf (λ x. local_bind (more sep b f n) (λ xs us. Ok ((x ∷ []) ++ xs, us)) (local_more sep b f front lf n) (λ xs. local_ok ((x ∷ []) ++ xs))))
 
 -- Two steps, of which the second ones agree on what the first gives.
-bind_agrees : {A B : Type 0} (o : Result A GrammarFault) (f g : A → Result B GrammarFault) → ((x : A) → o ≡ Ok x → f x ≡ g x) → (o >>= f) ≡ (o >>= g)
+bind_agrees : {A B : Type 0} (o : Result A Stop) (f g : A → Result B Stop) → ((x : A) → o ≡ Ok x → f x ≡ g x) → (o >>= f) ≡ (o >>= g)
 bind_agrees (Ok x) f g h = h x refl
 bind_agrees (Err e) f g h = refl
 
@@ -432,7 +429,7 @@ more_enough sep b f lf (suc n) zero ts h k = choose_agrees (after sep ts) (Ok ([
 more_enough {A} sep b f lf (suc n) (suc m) ts h k =
     choose_agrees (after sep ts) (Ok ([], ts)) _ _ (λ rest e. bind_agrees (f rest) _ _ (λ first d.
     let short : length first.1 < length ts = omega (arith, after_short sep ts rest e, ends_short ((lf rest).goes first.0 first.1 d)) in
-    ap (λ (o : Result (List A × List Token) GrammarFault). with_front (first.0 ∷ []) o) (more_enough sep b f lf n m first.1 (omega arith) (omega arith))))
+    ap (λ (o : Result (List A × List Token) Stop). with_front (first.0 ∷ []) o) (more_enough sep b f lf n m first.1 (omega arith) (omega arith))))
 
 -- A separator and parts, as many as there are.
 pub local_all : {A : Type 0} (sep : Token → Bool) (b : List Token → Bool) (f : Reader A) → ((t : Token) (us vs : List Token) → b (t ∷ us) ≡ b (t ∷ vs)) → Local true f → Local true (λ ts. more sep b f (length ts) ts)

@@ -9,8 +9,8 @@ use Rattle.semantics.specs.declared.token.Word.TheVariants as w
 use Rattle.semantics.specs.declared.token.Sign.TheVariants as s
 use Rattle.query_lexer.specs.Options.{choose}
 use Rattle.semantics.specs.Syntax.{ExpressionForm, PredicateForm, ElementForm, ItemForm, KeyForm, TreeForm, set, rollup, cube, sets, element_forms}
-use Rattle.query_parser.specs.declared.fault.GrammarFault.{GrammarFault}
-use Rattle.query_parser.specs.declared.fault.GrammarFault.TheVariants as faults
+use Rattle.query_parser.specs.Stops.{Stop}
+use Rattle.query_parser.specs.Stops as halts
 use Rattle.query_parser.specs.Fronts.{is_word, is_sign, after}
 use Rattle.query_parser.specs.Steps.{◌>>=◌, Reader, unexpected_at, found_or_unexpected, with_front, more, name_at, begins_name}
 use Rattle.query_parser.specs.ExpressionSteps.{expression_at, begins_expression}
@@ -146,7 +146,7 @@ from_way {A} x ts = of_from (found_or_unexpected (after (is_word w.From)) ts) wh
   of_name (tokens.Name n ∷ us) = of_test (bytes_eq n (codes "lines")) (tokens.Name n ∷ us) us
   of_name (t ∷ us) = refl
 
-  of_from : (o : Result (List Token) GrammarFault) → ((o >>= λ a. found_or_unexpected name_at a >>= λ n. cond (bytes_eq n.0 (codes "lines")) (Ok n.1) (unexpected_at a)) >>= λ rest. beside x rest) ≡ (o >>= λ a. choose (lines_at a) (unexpected_at a) (λ l. beside x l.1))
+  of_from : (o : Result (List Token) Stop) → ((o >>= λ a. found_or_unexpected name_at a >>= λ n. cond (bytes_eq n.0 (codes "lines")) (Ok n.1) (unexpected_at a)) >>= λ rest. beside x rest) ≡ (o >>= λ a. choose (lines_at a) (unexpected_at a) (λ l. beside x l.1))
   of_from (Ok a) = of_name a
   of_from (Err e) = refl
 
@@ -251,28 +251,28 @@ unfolding all_read_at
 all_read_l limits = local_bind (query_at limits) (λ q us. ended_at q us) (query_l limits) ended_l
 
 -- It stops where the reader of the whole does.
-pub all_read_stops : (limits : Limits) (ts : List Token) (e : GrammarFault) → whole_at limits ts ≡ Err e
+pub all_read_stops : (limits : Limits) (ts : List Token) (e : Stop) → whole_at limits ts ≡ Err e
     → all_read_at limits ts ≡ Err e
 unfolding whole_at all_read_at ended_at
 all_read_stops limits ts e d = of_query (query_at limits ts) d where
-  of_query : (o : Result (TreeForm × List Token) GrammarFault) → (o >>= λ x. at_end x.1 x.0) ≡ Err e
+  of_query : (o : Result (TreeForm × List Token) Stop) → (o >>= λ x. at_end x.1 x.0) ≡ Err e
       → (o >>= λ x. ended_at x.0 x.1) ≡ Err e
   of_query (Err n) h = let k : n ≡ e = cc in cc
   of_query (Ok (q, [])) h = absurd cc
-  of_query (Ok (q, t ∷ us)) h = let k : faults.Unexpected (length (t ∷ us)) ≡ e = cc in cc
+  of_query (Ok (q, t ∷ us)) h = let k : halts.unexpected (length (t ∷ us)) ≡ e = cc in cc
 
 pub all_read_ok : (limits : Limits) (ts : List Token) (q : TreeForm) → whole_at limits ts ≡ Ok q
     → all_read_at limits ts ≡ Ok (q, [])
 unfolding whole_at all_read_at ended_at
 all_read_ok limits ts q d = of_query (query_at limits ts) d where
-  of_query : (o : Result (TreeForm × List Token) GrammarFault) → (o >>= λ x. at_end x.1 x.0) ≡ Ok q
+  of_query : (o : Result (TreeForm × List Token) Stop) → (o >>= λ x. at_end x.1 x.0) ≡ Ok q
       → (o >>= λ x. ended_at x.0 x.1) ≡ Ok (q, [])
   of_query (Err n) h = absurd cc
   of_query (Ok (p, [])) h = let k : p ≡ q = cc in cc
   of_query (Ok (p, t ∷ us)) h = absurd cc
 
 -- A fault stands among the tokens or at their end.
-pub left_within : (limits : Limits) (ts : List Token) (e : GrammarFault) → whole_at limits ts ≡ Err e
+pub left_within : (limits : Limits) (ts : List Token) (e : Stop) → whole_at limits ts ≡ Err e
     → left_of e ≤ length ts
 left_within limits ts e d = (all_read_l limits ts).within e (all_read_stops limits ts e d)
 
@@ -286,22 +286,22 @@ same_to zero (t ∷ ts) rest h = SameFront.here
 same_to (suc k) (t ∷ ts) rest h = SameFront.token (same_to k ts rest (omega arith))
 
 -- Where a token is not expected, no tokens that begin with those up to it are read.
-unread : (limits : Limits) (ts : List Token) (left : ℕ) → whole_at limits ts ≡ Err (faults.Unexpected left)
+unread : (limits : Limits) (ts : List Token) (left : ℕ) → whole_at limits ts ≡ Err (halts.unexpected left)
     → length ts - left < length ts → (rest : List Token) (q : TreeForm)
     → whole_at limits (take (suc (length ts - left)) ts ++ rest) ≡ Ok q → ⊥
 unread limits ts left e h rest q d =
     let k = length ts - left in
-    let stopped = all_read_stops limits ts (faults.Unexpected left) e in
-    let within : left ≤ length ts = left_within limits ts (faults.Unexpected left) e in
+    let stopped = all_read_stops limits ts (halts.unexpected left) e in
+    let within : left ≤ length ts = left_within limits ts (halts.unexpected left) e in
     let us = take (suc k) ts ++ rest in
     let behind : left ≡ length (drop k ts) = omega (arith, length-drop k ts) in
     let stops =
-    (all_read_l limits ts).stops us (drop k ts) (drop k us) (faults.Unexpected left) stopped (same_to k ts rest h) behind in
+    (all_read_l limits ts).stops us (drop k ts) (drop k us) (halts.unexpected left) stopped (same_to k ts rest h) behind in
     let read = all_read_ok limits us q d in
     absurd cc
 
 -- Where a token is not expected, it continues no query, whatever the limits.
-pub continues_none_at : (ts : List Token) (left : ℕ) → whole_at standard ts ≡ Err (faults.Unexpected left)
+pub continues_none_at : (ts : List Token) (left : ℕ) → whole_at standard ts ≡ Err (halts.unexpected left)
     → length ts - left < length ts → Begins (take (length ts - left + 1) ts) → ⊥
 continues_none_at ts left e h b =
     let wide = both standard b.limits in
@@ -311,7 +311,7 @@ continues_none_at ts left e h b =
     unread wide ts left stopped h b.within.rest b.within.tree (whole_c (wider_other standard b.limits) (take (suc (length ts - left)) ts ++ b.within.rest) b.within.tree derived)
 
 -- Tokens of which one is not expected, or the end is not, derive no query, whatever the limits.
-pub derives_none_at : (ts : List Token) (left : ℕ) → whole_at standard ts ≡ Err (faults.Unexpected left)
+pub derives_none_at : (ts : List Token) (left : ℕ) → whole_at standard ts ≡ Err (halts.unexpected left)
     → (limits : Limits) (q : TreeForm) → DerivesWithin limits ts q → ⊥
 derives_none_at ts left e limits q d =
     let stopped = agrees_unexpected (whole_agrees (wider_one standard limits) ts) left e in
@@ -325,17 +325,17 @@ shares_to (suc k) [] rest h = absurd (omega arith)
 shares_to (suc k) (t ∷ ts) rest h = Shares.token (shares_to k ts rest (omega arith))
 
 -- Where it is too much, the tokens before that begin no query within the limits of the language.
-pub begins_none_at : (ts : List Token) (left : ℕ) → whole_at standard ts ≡ Err (faults.OverLimit left)
+pub begins_none_at : (ts : List Token) (left : ℕ) → whole_at standard ts ≡ Err (halts.over_limit left)
     → BeginsWithin standard (take (length ts - left) ts) → ⊥
 begins_none_at ts left e b =
     let k = length ts - left in
-    let stopped = all_read_stops standard ts (faults.OverLimit left) e in
-    let within : left ≤ length ts = left_within standard ts (faults.OverLimit left) e in
+    let stopped = all_read_stops standard ts (halts.over_limit left) e in
+    let within : left ≤ length ts = left_within standard ts (halts.over_limit left) e in
     let us = take k ts ++ b.rest in
     let behind : left ≡ length (drop k ts) = omega (arith, length-drop k ts) in
     let inside : k ≤ length ts = omega arith in
     let fails =
-    (all_read_l standard ts).over us (drop k ts) b.rest (stopped ∙ ap (λ (n : ℕ). Err (faults.OverLimit n)) behind) (shares_to k ts b.rest inside) in
+    (all_read_l standard ts).over us (drop k ts) b.rest (stopped ∙ ap (λ (n : ℕ). Err (halts.over_limit n)) behind) (shares_to k ts b.rest inside) in
     let fault_is = fails.is in
     let read = all_read_ok standard us b.tree (whole_c (wider_same standard) us b.tree b.derived) in
     absurd cc

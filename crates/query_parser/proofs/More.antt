@@ -1,15 +1,17 @@
 -- Reading a list item by item, as a loop does.
-use Rattle.std.proofs.Common.{arith, length, ◌<◌, ◌≤◌, ◌≡◌, ℕ, zero, suc, Bool, List, [], ◌∷◌, ◌++◌, Some, None, Result, Ok, Err, refl, sym, ap, ◌∙◌, append_assoc}
+use Rattle.std.proofs.Common.{arith, length, ◌<◌, ◌≤◌, ◌≡◌, ℕ, zero, suc, Bool, List, [], ◌∷◌, ◌++◌, Some, None, Result, Ok, Err, refl, sym, ap, subst, ◌∙◌, append_assoc}
 use Rattle.std.proofs.lemmas.List.{append-nil}
 use Rattle.semantics.specs.declared.token.Token.{Token}
 use Rattle.query_parser.specs.Fronts.{after}
 use Rattle.query_parser.specs.Steps.{Fails, Reader, excess, with_front, more}
 use Rattle.query_parser.specs.declared.fault.GrammarFault.{GrammarFault}
+use Rattle.query_parser.specs.Stops.{Stop, fault_of}
 use Rattle.query_parser.specs.declared.fault.GrammarFault.TheVariants as faults
+use Rattle.query_parser.specs.Stops as halts
 
 -- What a list is read as.
 abbrev Parts : Type 0 → Type 0
-Parts A = Result (List A × List Token) GrammarFault
+Parts A = Result (List A × List Token) Stop
 
 -- the list ends
 pub more_ends : {A : Type 0} (sep : Token → Bool) (b : List Token → Bool) (f : Reader A) (n : ℕ) (ts : List Token) → after sep ts ≡ None → more sep b f n ts ≡ Ok ([], ts)
@@ -23,7 +25,7 @@ unfolding more
 more_over sep b f ts behind e = rw e refl
 
 -- an item that is none
-pub more_fails : {A : Type 0} (sep : Token → Bool) (b : List Token → Bool) (f : Reader A) (n : ℕ) (ts behind : List Token) (fault : GrammarFault) → after sep ts ≡ Some behind → f behind ≡ Err fault → more sep b f (suc n) ts ≡ Err fault
+pub more_fails : {A : Type 0} (sep : Token → Bool) (b : List Token → Bool) (f : Reader A) (n : ℕ) (ts behind : List Token) (fault : Stop) → after sep ts ≡ Some behind → f behind ≡ Err fault → more sep b f (suc n) ts ≡ Err fault
 unfolding more
 more_fails sep b f n ts behind fault e d = rw (e, d) refl
 
@@ -36,7 +38,7 @@ pub front_twice : {A : Type 0} (a b : List A) (read : Parts A) → with_front a 
 front_twice {A} a b (Err e) = refl
 front_twice {A} a b (Ok x) = ap (λ (ys : List A). Ok (ys, x.1)) (sym (append_assoc a b x.0))
 
-pub front_fails : {A : Type 0} (a : List A) (read : Parts A) (fault : GrammarFault) → read ≡ Err fault → with_front a read ≡ Err fault
+pub front_fails : {A : Type 0} (a : List A) (read : Parts A) (fault : Stop) → read ≡ Err fault → with_front a read ≡ Err fault
 front_fails a read fault e = rw e refl
 
 pub front_ends : {A : Type 0} (a : List A) (ts : List Token) (read : Parts A) → read ≡ Ok ([], ts) → with_front a read ≡ Ok (a, ts)
@@ -53,10 +55,15 @@ loop_over sep b f front ts behind total e h = sym h ∙ front_fails front (more 
 pub loop_ends : {A : Type 0} (sep : Token → Bool) (b : List Token → Bool) (f : Reader A) (n : ℕ) (front : List A) (ts : List Token) (total : Parts A) → after sep ts ≡ None → with_front front (more sep b f n ts) ≡ total → total ≡ Ok (front, ts)
 loop_ends sep b f n front ts total e h = sym h ∙ front_ends front ts (more sep b f n ts) (more_ends sep b f n ts e)
 
+-- what fails where reading stops
+pub stopped : {Y : Type 0} (e : GrammarFault) (stop : Stop) (read : Result Y Stop) → e ≡ fault_of stop → read ≡ Err stop → Fails e read
+stopped e (halts.unexpected n) read h d = subst (λ (f : GrammarFault). Fails f read) (sym h) d
+stopped e (halts.over_limit n) read h d = subst (λ (f : GrammarFault). Fails f read) (sym h) (n, d)
+
 pub loop_fails : {A : Type 0} (e : GrammarFault) (sep : Token → Bool) (b : List Token → Bool) (f : Reader A) (n : ℕ) (front : List A) (ts behind : List Token) (total : Parts A) → after sep ts ≡ Some behind → Fails e (f behind) → with_front front (more sep b f (suc n) ts) ≡ total → Fails e total
 loop_fails faults.OutOfMemory sep b f n front ts behind total e d h = tt
-loop_fails (faults.OverLimit k) sep b f n front ts behind total e d h = sym h ∙ front_fails front (more sep b f (suc n) ts) (faults.OverLimit k) (more_fails sep b f n ts behind (faults.OverLimit k) e d)
-loop_fails (faults.Unexpected k) sep b f n front ts behind total e d h = sym h ∙ front_fails front (more sep b f (suc n) ts) (faults.Unexpected k) (more_fails sep b f n ts behind (faults.Unexpected k) e d)
+loop_fails faults.OverLimit sep b f n front ts behind total e (k, d) h = (k, sym h ∙ front_fails front (more sep b f (suc n) ts) (halts.over_limit k) (more_fails sep b f n ts behind (halts.over_limit k) e d))
+loop_fails (faults.Unexpected k) sep b f n front ts behind total e d h = sym h ∙ front_fails front (more sep b f (suc n) ts) (halts.unexpected k) (more_fails sep b f n ts behind (halts.unexpected k) e d)
 
 front_nil : {A : Type 0} (read : Parts A) → with_front [] read ≡ read
 front_nil (Err e) = refl
@@ -89,10 +96,8 @@ pub unread_fails : {A : Type 0} (e : GrammarFault) (sep : Token → Bool) (b : L
 unread_fails e sep b f front ts behind total u d h k = fails_at u.n e sep b f front ts behind total u.room u.told d h k
 
 -- A fault of a part too many stands where reading stops at it.
-pub refused : {Y : Type 0} (e : GrammarFault) (b : List Token → Bool) (ts : List Token) (read : Result Y GrammarFault) → e ≡ excess b ts → read ≡ Err (excess b ts) → Fails e read
-refused faults.OutOfMemory b ts read h n = tt
-refused (faults.OverLimit k) b ts read h n = cc
-refused (faults.Unexpected k) b ts read h n = cc
+pub refused : {Y : Type 0} (e : GrammarFault) (b : List Token → Bool) (ts : List Token) (read : Result Y Stop) → e ≡ fault_of (excess b ts) → read ≡ Err (excess b ts) → Fails e read
+refused e b ts read h n = stopped e (excess b ts) read h n
 
 -- The first part and those behind it.
 pub unread_first : {A : Type 0} (sep : Token → Bool) (b : List Token → Bool) (f : Reader A) (x : A) (ts : List Token) → Unread sep b f (x ∷ []) ts (with_front (x ∷ []) (more sep b f (length ts) ts))

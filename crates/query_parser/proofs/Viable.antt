@@ -7,8 +7,8 @@ use Rattle.semantics.specs.declared.token.Token.TheVariants as tokens
 use Rattle.semantics.specs.declared.token.Word.TheVariants as w
 use Rattle.semantics.specs.declared.token.Sign.TheVariants as s
 use Rattle.query_lexer.specs.Options.{choose}
-use Rattle.query_parser.specs.declared.fault.GrammarFault.{GrammarFault}
-use Rattle.query_parser.specs.declared.fault.GrammarFault.TheVariants as faults
+use Rattle.query_parser.specs.Stops.{Stop}
+use Rattle.query_parser.specs.Stops as halts
 use Rattle.query_parser.specs.Fronts.{is_sign, after}
 use Rattle.query_parser.specs.Steps.{◌>>=◌, Reader, unexpected_at, over, found_or_unexpected, excess, with_front, more}
 use Rattle.semantics.specs.Leaves.{Derivation, IsRepeated}
@@ -59,24 +59,21 @@ pub data Uncounted : ℕ → List Token → Type 0 where
 -- How far the tokens before a fault go on. Within wider limits than the reader's they go on up to the token that is not
 -- expected, and beyond the place where it is too much, up to a token that counts; `strict` says that there is one. Within
 -- the reader's own limits they go on up to the token that is not expected, or the one before it that does not count.
-abbrev pub Reaches : Bool → Bool → GrammarFault → List Token → List Token → Type 0
-Reaches wide strict faults.OutOfMemory front back = ⊥
-Reaches true strict (faults.Unexpected left) front back = length back ≡ left
-Reaches true strict (faults.OverLimit left) front back = (length back ≤ left) × (ends_counted (not strict) front ≡ true)
-Reaches false strict (faults.Unexpected left) front back = (length back ≡ left) ⊎ Uncounted left back
-Reaches false strict (faults.OverLimit left) front back = ⊥
+abbrev pub Reaches : Bool → Bool → Stop → List Token → List Token → Type 0
+Reaches true strict (halts.unexpected left) front back = length back ≡ left
+Reaches true strict (halts.over_limit left) front back = (length back ≤ left) × (ends_counted (not strict) front ≡ true)
+Reaches false strict (halts.unexpected left) front back = (length back ≡ left) ⊎ Uncounted left back
+Reaches false strict (halts.over_limit left) front back = ⊥
 
 -- Of which faults that is claimed: within the reader's own limits of no token too much.
-abbrev pub Claimed : Bool → GrammarFault → Type 0
-Claimed wide faults.OutOfMemory = ⊥
-Claimed wide (faults.Unexpected left) = Unit {0}
-Claimed true (faults.OverLimit left) = Unit {0}
-Claimed false (faults.OverLimit left) = ⊥
+abbrev pub Claimed : Bool → Stop → Type 0
+Claimed wide (halts.unexpected left) = Unit {0}
+Claimed true (halts.over_limit left) = Unit {0}
+Claimed false (halts.over_limit left) = ⊥
 
 pub record Viable {A : Type 0} (strict wide : Bool) (P : Derivation A) (f : Reader A) : Type 0 where
   pub goes : (ts : List Token) (x : A) (rest : List Token) → f ts ≡ Ok (x, rest) → Takes P ts x rest
-  pub stops : (ts : List Token) (e : GrammarFault) → f ts ≡ Err e → Claimed wide e → GoesOn P (Reaches wide strict e) ts
-  pub sure : (ts : List Token) → f ts ≡ Err faults.OutOfMemory → ⊥
+  pub stops : (ts : List Token) (e : Stop) → f ts ≡ Err e → Claimed wide e → GoesOn P (Reaches wide strict e) ts
 
 -- ---- fronts in two parts
 
@@ -93,24 +90,22 @@ ends_behind none [] (t ∷ ts) d = d
 ends_behind none (u ∷ us) behind d = ends_behind (counted u) us behind d
 
 -- A fault behind a front is as far behind the whole, where a token stands before it, or none was taken.
-reaches_behind : (wide strict : Bool) (e : GrammarFault) (front behind back : List Token) → Reaches wide true e behind back → Reaches wide strict e (front ++ behind) back
-reaches_behind wide strict faults.OutOfMemory front behind back r = absurd r
-reaches_behind true strict (faults.Unexpected left) front behind back r = r
-reaches_behind true strict (faults.OverLimit left) front behind back r = (r.0, ends_behind (not strict) front behind r.1)
-reaches_behind false strict (faults.Unexpected left) front behind back r = r
-reaches_behind false strict (faults.OverLimit left) front behind back r = absurd r
+reaches_behind : (wide strict : Bool) (e : Stop) (front behind back : List Token) → Reaches wide true e behind back → Reaches wide strict e (front ++ behind) back
+reaches_behind true strict (halts.unexpected left) front behind back r = r
+reaches_behind true strict (halts.over_limit left) front behind back r = (r.0, ends_behind (not strict) front behind r.1)
+reaches_behind false strict (halts.unexpected left) front behind back r = r
+reaches_behind false strict (halts.over_limit left) front behind back r = absurd r
 
 -- The same behind a token that counts.
-reaches_token : (wide strict : Bool) (e : GrammarFault) (t : Token) (front back : List Token) → (strict ≡ false → counted t ≡ true) → Reaches wide strict e front back → Reaches wide true e (t ∷ front) back
-reaches_token wide strict faults.OutOfMemory t front back c r = absurd r
-reaches_token true strict (faults.Unexpected left) t front back c r = r
-reaches_token true true (faults.OverLimit left) t front back c r = (r.0, ends_behind (counted t) [] front r.1)
-reaches_token true false (faults.OverLimit left) t front back c r = (r.0, subst (λ (b : Bool). ends_counted b front ≡ true) (sym (c refl)) r.1)
-reaches_token false strict (faults.Unexpected left) t front back c r = r
-reaches_token false strict (faults.OverLimit left) t front back c r = absurd r
+reaches_token : (wide strict : Bool) (e : Stop) (t : Token) (front back : List Token) → (strict ≡ false → counted t ≡ true) → Reaches wide strict e front back → Reaches wide true e (t ∷ front) back
+reaches_token true strict (halts.unexpected left) t front back c r = r
+reaches_token true true (halts.over_limit left) t front back c r = (r.0, ends_behind (counted t) [] front r.1)
+reaches_token true false (halts.over_limit left) t front back c r = (r.0, subst (λ (b : Bool). ends_counted b front ≡ true) (sym (c refl)) r.1)
+reaches_token false strict (halts.unexpected left) t front back c r = r
+reaches_token false strict (halts.over_limit left) t front back c r = absurd r
 
 -- Where a token is taken, a token is taken or not.
-reaches_loose : (wide : Bool) (e : GrammarFault) (front back : List Token) → Reaches wide true e front back → Reaches wide false e front back
+reaches_loose : (wide : Bool) (e : Stop) (front back : List Token) → Reaches wide true e front back → Reaches wide false e front back
 reaches_loose wide e front back r = reaches_behind wide false e [] front back r
 
 -- ---- what is taken in two parts, and by one token more
@@ -130,7 +125,7 @@ takes_token {t = t} join q = record {
 }
 
 -- What was read goes on, and what stands behind it is read.
-goes_on_front : {A B : Type 0} (wide strict : Bool) (e : GrammarFault) {P : Derivation A} {R : Derivation B} {Q : A → Derivation B} {ts : List Token} → ((us vs ws : List Token) (x : A) (y : B) → P us x vs → Q x vs y ws → R us y ws) → ((x : A) → Phrase (Q x)) → GoesOn P (Reaches wide strict e) ts → GoesOn R (Reaches wide strict e) ts
+goes_on_front : {A B : Type 0} (wide strict : Bool) (e : Stop) {P : Derivation A} {R : Derivation B} {Q : A → Derivation B} {ts : List Token} → ((us vs ws : List Token) (x : A) (y : B) → P us x vs → Q x vs y ws → R us y ws) → ((x : A) → Phrase (Q x)) → GoesOn P (Reaches wide strict e) ts → GoesOn R (Reaches wide strict e) ts
 goes_on_front wide strict e {R = R} {ts = ts} join phrase g =
     let p = phrase g.value in
     record {
@@ -144,7 +139,7 @@ goes_on_front wide strict e {R = R} {ts = ts} join phrase g =
     }
 
 -- What stands behind what was read goes on.
-goes_on_behind : {A B : Type 0} (wide strict : Bool) (e : GrammarFault) {P : Derivation A} {Q R : Derivation B} {ts mid : List Token} {x : A} → ((us vs ws : List Token) (y : B) → P us x vs → Q vs y ws → R us y ws) → Takes P ts x mid → GoesOn Q (Reaches wide true e) mid → GoesOn R (Reaches wide strict e) ts
+goes_on_behind : {A B : Type 0} (wide strict : Bool) (e : Stop) {P : Derivation A} {Q R : Derivation B} {ts mid : List Token} {x : A} → ((us vs ws : List Token) (y : B) → P us x vs → Q vs y ws → R us y ws) → Takes P ts x mid → GoesOn Q (Reaches wide true e) mid → GoesOn R (Reaches wide strict e) ts
 goes_on_behind wide strict e {R = R} {ts = ts} join p g = record {
   front = p.front ++ g.front;
   back = g.back;
@@ -155,7 +150,7 @@ goes_on_behind wide strict e {R = R} {ts = ts} join p g = record {
   derived = λ other. subst (λ us. R us g.value other) (sym (append_assoc p.front g.front (g.behind ++ other))) (join (p.front ++ (g.front ++ (g.behind ++ other))) (g.front ++ (g.behind ++ other)) other g.value (p.derived (g.front ++ (g.behind ++ other))) (g.derived other));
 }
 
-goes_on_token : {A : Type 0} (wide strict : Bool) (e : GrammarFault) {Q R : Derivation A} {t : Token} {ts : List Token} → ((us vs : List Token) (x : A) → Q us x vs → R (t ∷ us) x vs) → (strict ≡ false → counted t ≡ true) → GoesOn Q (Reaches wide strict e) ts → GoesOn R (Reaches wide true e) (t ∷ ts)
+goes_on_token : {A : Type 0} (wide strict : Bool) (e : Stop) {Q R : Derivation A} {t : Token} {ts : List Token} → ((us vs : List Token) (x : A) → Q us x vs → R (t ∷ us) x vs) → (strict ≡ false → counted t ≡ true) → GoesOn Q (Reaches wide strict e) ts → GoesOn R (Reaches wide true e) (t ∷ ts)
 goes_on_token wide strict e {t = t} join counts g = record {
   front = t ∷ g.front;
   back = g.back;
@@ -173,18 +168,16 @@ pub viable_ok : {A : Type 0} {wide : Bool} {P : Derivation A} (x : A) → ((ts :
 viable_ok {A} {wide} {P} x derived = record {
   goes = λ ts y rest d. (let k = ok_is (x, ts) (y, rest) d in subst (λ (z : A × List Token). Takes P ts z.0 z.1) k record { front = []; is = refl; derived = derived });
   stops = λ ts e d c. absurd cc;
-  sure = λ ts d. absurd cc;
 }
 
 -- A reader that stops at once, at a token that is not expected.
 pub viable_stuck : {A : Type 0} {strict wide : Bool} {P : Derivation A} → Phrase P → Viable strict wide P unexpected_at
 viable_stuck {A} {strict} {wide} {P} phrase = record {
   goes = λ ts x rest d. absurd cc;
-  stops = λ ts e d c. (let k : faults.Unexpected (length ts) ≡ e = cc in
-      subst (λ (m : GrammarFault). GoesOn P (Reaches wide strict m) ts) k record { front = []; back = ts; is = refl; reaches = at_token wide strict ts; behind = phrase.tokens; value = phrase.value; derived = phrase.derived });
-  sure = λ ts d. absurd cc;
+  stops = λ ts e d c. (let k : halts.unexpected (length ts) ≡ e = cc in
+      subst (λ (m : Stop). GoesOn P (Reaches wide strict m) ts) k record { front = []; back = ts; is = refl; reaches = at_token wide strict ts; behind = phrase.tokens; value = phrase.value; derived = phrase.derived });
 } where
-  at_token : (wide strict : Bool) (ts : List Token) → Reaches wide strict (faults.Unexpected (length ts)) [] ts
+  at_token : (wide strict : Bool) (ts : List Token) → Reaches wide strict (halts.unexpected (length ts)) [] ts
   at_token true strict ts = refl
   at_token false strict ts = inl refl
 
@@ -192,14 +185,12 @@ viable_stuck {A} {strict} {wide} {P} phrase = record {
 pub viable_over : {A : Type 0} {wide : Bool} {P : Derivation A} → (wide ≡ true → Phrase P) → Viable false wide P over
 viable_over {A} {wide = true} {P} phrase = record {
   goes = λ ts x rest d. absurd cc;
-  stops = λ ts e d c. (let k : faults.OverLimit (length ts) ≡ e = cc in let p = phrase refl in
-      subst (λ (m : GrammarFault). GoesOn P (Reaches true false m) ts) k record { front = []; back = ts; is = refl; reaches = (omega arith, refl); behind = p.tokens; value = p.value; derived = p.derived });
-  sure = λ ts d. absurd cc;
+  stops = λ ts e d c. (let k : halts.over_limit (length ts) ≡ e = cc in let p = phrase refl in
+      subst (λ (m : Stop). GoesOn P (Reaches true false m) ts) k record { front = []; back = ts; is = refl; reaches = (omega arith, refl); behind = p.tokens; value = p.value; derived = p.derived });
 }
 viable_over {A} {wide = false} {P} phrase = record {
   goes = λ ts x rest d. absurd cc;
-  stops = λ ts e d c. (let k : faults.OverLimit (length ts) ≡ e = cc in absurd (subst (Claimed false) (sym k) c));
-  sure = λ ts d. absurd cc;
+  stops = λ ts e d c. (let k : halts.over_limit (length ts) ≡ e = cc in absurd (subst (Claimed false) (sym k) c));
 }
 
 -- A reader of what is also something else.
@@ -207,7 +198,6 @@ pub viable_as : {A : Type 0} {strict wide : Bool} {P Q : Derivation A} {f : Read
 viable_as {P = P} {Q} gives v = record {
   goes = λ ts x rest d. (let t = v.goes ts x rest d in record { front = t.front; is = t.is; derived = λ other. gives (t.front ++ other) other x (t.derived other) });
   stops = λ ts e d c. (let g = v.stops ts e d c in record { front = g.front; back = g.back; is = g.is; reaches = g.reaches; behind = g.behind; value = g.value; derived = λ other. gives (g.front ++ (g.behind ++ other)) other g.value (g.derived other) });
-  sure = v.sure;
 }
 
 -- Readers that give the same.
@@ -215,7 +205,6 @@ pub viable_same : {A : Type 0} {strict wide : Bool} {P : Derivation A} (f g : Re
 viable_same f g same v = record {
   goes = λ ts x rest d. v.goes ts x rest (sym (same ts) ∙ d);
   stops = λ ts e d c. v.stops ts e (sym (same ts) ∙ d) c;
-  sure = λ ts d. v.sure ts (sym (same ts) ∙ d);
 }
 
 -- A reader, where it does not matter whether it takes a token.
@@ -223,17 +212,16 @@ pub viable_loose : {A : Type 0} {wide : Bool} {P : Derivation A} {f : Reader A} 
 viable_loose {wide = wide} v = record {
   goes = v.goes;
   stops = λ ts e d c. (let g = v.stops ts e d c in record { front = g.front; back = g.back; is = g.is; reaches = reaches_loose wide e g.front g.back g.reaches; behind = g.behind; value = g.value; derived = g.derived });
-  sure = v.sure;
 }
 
 -- A fault, as a result.
-abbrev failed : {A : Type 0} → GrammarFault → Result A GrammarFault
+abbrev failed : {A : Type 0} → Stop → Result A Stop
 failed e = Err e
 
 -- Two steps that fail: which one.
-bind_err : {A B : Type 0} (o : Result A GrammarFault) (f : A → Result B GrammarFault) (e : GrammarFault) → (o >>= f) ≡ Err e → (o ≡ Err e) ⊎ ((x : A) × (o ≡ Ok x) × (f x ≡ Err e))
+bind_err : {A B : Type 0} (o : Result A Stop) (f : A → Result B Stop) (e : Stop) → (o >>= f) ≡ Err e → (o ≡ Err e) ⊎ ((x : A) × (o ≡ Ok x) × (f x ≡ Err e))
 bind_err (Ok x) f e d = inr (x, refl, d)
-bind_err (Err n) f e d = inl (let k : n ≡ e = cc in ap (λ (m : GrammarFault). Err m) k)
+bind_err (Err n) f e d = inl (let k : n ≡ e = cc in ap (λ (m : Stop). Err m) k)
 
 -- One reader and then another.
 pub viable_bind : {A B : Type 0} {strict wide : Bool} {P : Derivation A} {R : Derivation B} (Q : A → Derivation B) (f : Reader A) (g : A → Reader B)
@@ -244,9 +232,8 @@ viable_bind {A} {B} {strict} {wide} {P} {R} Q f g join phrase vf vg = record {
     | inl h ↦ goes_on_front wide strict e join phrase (vf.stops ts e h c)
     | inr a ↦ goes_on_behind wide strict e (λ us vs ws y p q. join us vs ws a.0.0 y p q) (vf.goes ts a.0.0 a.0.1 a.1) ((vg a.0.0).stops a.0.1 e a.2 c)
   ];
-  sure = λ ts d. elim (bind_err (f ts) next faults.OutOfMemory d) [ inl h ↦ vf.sure ts h | inr a ↦ (vg a.0.0).sure a.0.1 a.2 ];
 } where
-  next : A × List Token → Result (B × List Token) GrammarFault
+  next : A × List Token → Result (B × List Token) Stop
   next y = g y.0 y.1
 
 -- Nothing is taken, and this is read.
@@ -268,7 +255,7 @@ value_of true = inl refl
 value_of false = inr refl
 
 -- A choice that fails: which way it went.
-pub choose_err : {X Y : Type 0} (o : Option X) (b : Result Y GrammarFault) (f : X → Result Y GrammarFault) (e : GrammarFault) → choose o b f ≡ Err e → (b ≡ Err e) ⊎ ((x : X) × (o ≡ Some x) × (f x ≡ Err e))
+pub choose_err : {X Y : Type 0} (o : Option X) (b : Result Y Stop) (f : X → Result Y Stop) (e : Stop) → choose o b f ≡ Err e → (b ≡ Err e) ⊎ ((x : X) × (o ≡ Some x) × (f x ≡ Err e))
 choose_err None b f e d = inl d
 choose_err (Some x) b f e d = inr (x, refl, d)
 
@@ -292,14 +279,13 @@ viable_choose {A} {strict} {wide} {Q} {R} test t only counts join n g vn vg = re
     | inl h ↦ vn.stops ts e h c
     | inr h ↦ subst (λ us. GoesOn R (Reaches wide true e) us) (sym (only ts h.0 h.1)) (goes_on_token wide strict e join counts (vg.stops h.0 e h.2 c))
   ];
-  sure = λ ts d. elim (choose_err (after test ts) (n ts) (λ a. g a) faults.OutOfMemory d) [ inl h ↦ vn.sure ts h | inr h ↦ vg.sure h.0 h.2 ];
 }
 
 -- A phrase behind a token.
 pub phrase_behind : {A : Type 0} {Q R : Derivation A} (t : Token) → Behind t Q R → Phrase Q → Phrase R
 phrase_behind t join p = record { tokens = t ∷ p.tokens; value = p.value; derived = λ other. join (p.tokens ++ other) other p.value (p.derived other) }
 
-found_or_stuck_choice : {A B : Type 0} (o : Option A) (n : GrammarFault) (g : A → Result B GrammarFault) → (choose o (Err n) (λ x. Ok x) >>= g) ≡ choose o (Err n) g
+found_or_stuck_choice : {A B : Type 0} (o : Option A) (n : Stop) (g : A → Result B Stop) → (choose o (Err n) (λ x. Ok x) >>= g) ≡ choose o (Err n) g
 found_or_stuck_choice None n g = refl
 found_or_stuck_choice (Some x) n g = refl
 
@@ -307,7 +293,7 @@ found_or_stuck_choice (Some x) n g = refl
 pub viable_found_or_stuck : {A : Type 0} {strict wide : Bool} {Q R : Derivation A} (test : Token → Bool) (t : Token) → Only test t → (strict ≡ false → counted t ≡ true) → Behind t Q R → (g : Reader A)
     → Phrase Q → Viable strict wide Q g → Viable true wide R (λ ts. found_or_unexpected (after test) ts >>= λ a. g a)
 viable_found_or_stuck {wide = wide} {Q} {R} test t only counts join g phrase vg =
-    viable_same (λ ts. found_or_unexpected (after test) ts >>= λ a. g a) (λ ts. choose (after test ts) (unexpected_at ts) (λ a. g a)) (λ ts. found_or_stuck_choice (after test ts) (faults.Unexpected (length ts)) g)
+    viable_same (λ ts. found_or_unexpected (after test) ts >>= λ a. g a) (λ ts. choose (after test ts) (unexpected_at ts) (λ a. g a)) (λ ts. found_or_stuck_choice (after test ts) (halts.unexpected (length ts)) g)
     (viable_choose test t only counts join unexpected_at g (viable_stuck (phrase_behind t join phrase)) vg)
 
 -- What looks at the token in front alone finds what derives from it.
@@ -320,7 +306,6 @@ pub viable_front : {A X : Type 0} {strict wide : Bool} {P : Derivation X} {Q : X
 viable_front {A} {X} {strict} {wide} {P} {Q} {R} h finds join n g vn vg = record {
   goes = λ ts x rest d. goes_at ts x rest d;
   stops = λ ts e d c. stops_at ts e d c;
-  sure = λ ts d. sure_at ts d;
 } where
   chosen : Reader A
   chosen ts = choose (h ts) (n ts) (λ x. g x.0 x.1)
@@ -335,16 +320,12 @@ viable_front {A} {X} {strict} {wide} {P} {Q} {R} h finds join n g vn vg = record
     | inr i ↦ takes_token (λ us vs q. join (t ∷ us) us vs i.0 x (i.2 us) q) ((vg i.0).goes ts x rest (sym (chooses (t ∷ ts) (i.1 ts)) ∙ d))
   ]
 
-  stops_at : (ts : List Token) (e : GrammarFault) → chosen ts ≡ Err e → Claimed wide e → GoesOn R (Reaches wide true e) ts
+  stops_at : (ts : List Token) (e : Stop) → chosen ts ≡ Err e → Claimed wide e → GoesOn R (Reaches wide true e) ts
   stops_at [] e d c = vn.stops [] e (sym (chooses [] finds.at_end) ∙ d) c
   stops_at (t ∷ ts) e d c = elim (finds.at_token t) [
     | inl i ↦ vn.stops (t ∷ ts) e (sym (chooses (t ∷ ts) (i ts)) ∙ d) c
     | inr i ↦ goes_on_token wide strict e (λ us vs y q. join (t ∷ us) us vs i.0 y (i.2 us) q) (λ _. i.3) ((vg i.0).stops ts e (sym (chooses (t ∷ ts) (i.1 ts)) ∙ d) c)
   ]
-
-  sure_at : (ts : List Token) → chosen ts ≡ Err faults.OutOfMemory → ⊥
-  sure_at [] d = vn.sure [] (sym (chooses [] finds.at_end) ∙ d)
-  sure_at (t ∷ ts) d = elim (finds.at_token t) [ inl i ↦ vn.sure (t ∷ ts) (sym (chooses (t ∷ ts) (i ts)) ∙ d) | inr i ↦ (vg i.0).sure ts (sym (chooses (t ∷ ts) (i.1 ts)) ∙ d) ]
 
 -- A value that has to stand in front.
 pub viable_found_or_stuck_front : {X : Type 0} {wide : Bool} {P : Derivation X} (h : List Token → Option (X × List Token)) → Finds P h → Phrase P → Viable true wide P (found_or_unexpected h)
@@ -385,30 +366,25 @@ viable_more {A} {wide} {P} test sep b f only comma tells phrase vf zero most fit
     | inl h ↦ absurd cc
     | inr h ↦ subst (λ us. GoesOn (AtMost sep P most) (Reaches wide true e) us) (sym (only ts h.0 h.1)) (too_many wide wider h.0 e h.2 c)
   ];
-  sure = λ ts d. elim (choose_err (after test ts) (Ok ([], ts)) (λ rest. Err (excess b rest)) faults.OutOfMemory d) [ inl h ↦ absurd cc | inr h ↦ of_excess (b h.0) (length h.0) h.2 ];
 } where
-  of_excess : (v : Bool) (left : ℕ) → failed {A = List A × List Token} (cond v (faults.OverLimit left) (faults.Unexpected left)) ≡ failed faults.OutOfMemory → ⊥
-  of_excess true left d = absurd cc
-  of_excess false left d = absurd cc
-
   none : Viable true wide (AtMost sep P most) (λ ts. Ok ([], ts))
   none = viable_ok [] (λ ts. (IsRepeated.none, omega arith))
 
   -- A separator behind which no part begins, and one behind which a part too many begins.
-  no_part : (wide : Bool) → (wide ≡ true → 0 < most) → (us : List Token) → GoesOn (AtMost sep P most) (Reaches wide true (faults.Unexpected (length us))) (sep ∷ us)
+  no_part : (wide : Bool) → (wide ≡ true → 0 < most) → (us : List Token) → GoesOn (AtMost sep P most) (Reaches wide true (halts.unexpected (length us))) (sep ∷ us)
   no_part true wider us = record { front = sep ∷ []; back = us; is = refl; reaches = refl; behind = phrase.tokens; value = phrase.value ∷ []; derived = λ other. (IsRepeated.more (phrase.derived other) IsRepeated.none, omega (arith, wider refl)) }
   no_part false wider us = record { front = []; back = sep ∷ us; is = refl; reaches = inr (Uncounted.token comma); behind = []; value = []; derived = λ other. (IsRepeated.none, omega arith) }
 
-  a_part : (wide : Bool) → (wide ≡ true → 0 < most) → (t : Token) (us : List Token) → BeginsPart P t → Claimed wide (faults.OverLimit (length (t ∷ us))) → GoesOn (AtMost sep P most) (Reaches wide true (faults.OverLimit (length (t ∷ us)))) (sep ∷ t ∷ us)
+  a_part : (wide : Bool) → (wide ≡ true → 0 < most) → (t : Token) (us : List Token) → BeginsPart P t → Claimed wide (halts.over_limit (length (t ∷ us))) → GoesOn (AtMost sep P most) (Reaches wide true (halts.over_limit (length (t ∷ us)))) (sep ∷ t ∷ us)
   a_part true wider t us p c = record { front = sep ∷ t ∷ []; back = us; is = refl; reaches = (omega arith, p.counts); behind = p.behind; value = p.value ∷ []; derived = λ other. (IsRepeated.more (p.derived other) IsRepeated.none, omega (arith, wider refl)) }
   a_part false wider t us p c = absurd c
 
-  too_many : (wide : Bool) → (wide ≡ true → 0 < most) → (us : List Token) (e : GrammarFault) → failed {A = List A × List Token} (excess b us) ≡ Err e → Claimed wide e → GoesOn (AtMost sep P most) (Reaches wide true e) (sep ∷ us)
+  too_many : (wide : Bool) → (wide ≡ true → 0 < most) → (us : List Token) (e : Stop) → failed {A = List A × List Token} (excess b us) ≡ Err e → Claimed wide e → GoesOn (AtMost sep P most) (Reaches wide true e) (sep ∷ us)
   too_many wide wider us e d c = of_test (b us) us refl e d c where
-    of_test : (v : Bool) (us : List Token) → b us ≡ v → (e : GrammarFault) → failed {A = List A × List Token} (cond (b us) (faults.OverLimit (length us)) (faults.Unexpected (length us))) ≡ Err e → Claimed wide e → GoesOn (AtMost sep P most) (Reaches wide true e) (sep ∷ us)
-    of_test false us i e d c = let k : faults.Unexpected (length us) ≡ e = (let j = ap (λ (v : Bool). cond v (faults.OverLimit (length us)) (faults.Unexpected (length us))) i in cc) in subst (λ m. GoesOn (AtMost sep P most) (Reaches wide true m) (sep ∷ us)) k (no_part wide wider us)
+    of_test : (v : Bool) (us : List Token) → b us ≡ v → (e : Stop) → failed {A = List A × List Token} (cond (b us) (halts.over_limit (length us)) (halts.unexpected (length us))) ≡ Err e → Claimed wide e → GoesOn (AtMost sep P most) (Reaches wide true e) (sep ∷ us)
+    of_test false us i e d c = let k : halts.unexpected (length us) ≡ e = (let j = ap (λ (v : Bool). cond v (halts.over_limit (length us)) (halts.unexpected (length us))) i in cc) in subst (λ m. GoesOn (AtMost sep P most) (Reaches wide true m) (sep ∷ us)) k (no_part wide wider us)
     of_test true [] i e d c = absurd (let h = tells.at_end in cc)
-    of_test true (t ∷ us) i e d c = let k : faults.OverLimit (length (t ∷ us)) ≡ e = (let j = ap (λ (v : Bool). cond v (faults.OverLimit (length (t ∷ us))) (faults.Unexpected (length (t ∷ us)))) i in cc) in
+    of_test true (t ∷ us) i e d c = let k : halts.over_limit (length (t ∷ us)) ≡ e = (let j = ap (λ (v : Bool). cond v (halts.over_limit (length (t ∷ us))) (halts.unexpected (length (t ∷ us)))) i in cc) in
         subst (λ m. GoesOn (AtMost sep P most) (Reaches wide true m) (sep ∷ t ∷ us)) k (a_part wide wider t us (tells.at_token t us i) (subst (Claimed wide) (sym k) c))
 viable_more {A} {wide} {P} test sep b f only comma tells phrase vf (suc n) zero fits wider = absurd (omega arith)
 viable_more {A} {wide} {P} test sep b f only comma tells phrase vf (suc n) (suc most) fits wider =
@@ -460,12 +436,11 @@ unfolding more
 viable_all {A} {wide} {P} test sep b f only vf = record {
   goes = λ ts xs rest d. goes_at (length ts) ts (omega arith) xs rest d;
   stops = λ ts e d c. stops_at (length ts) ts (omega arith) e d c;
-  sure = λ ts d. sure_at (length ts) ts (omega arith) d;
 } where
   R : Derivation (List A)
   R = IsRepeated sep P
 
-  next : (n : ℕ) → List Token → Result (List A × List Token) GrammarFault
+  next : (n : ℕ) → List Token → Result (List A × List Token) Stop
   next n rest = f rest >>= λ first. with_front (first.0 ∷ []) (more test b f n first.1)
 
   -- What stands behind a separator and a part is shorter.
@@ -486,7 +461,7 @@ viable_all {A} {wide} {P} test sep b f only vf = record {
         subst (λ us. Takes R us xs rest) (sym (only ts i.0 i.1)) (subst (λ (z : List A × List Token). Takes R (sep ∷ i.0) z.0 z.1) k whole))
   ]
 
-  stops_at : (n : ℕ) (ts : List Token) → length ts ≤ n → (e : GrammarFault) → more test b f n ts ≡ Err e → Claimed wide e → GoesOn R (Reaches wide true e) ts
+  stops_at : (n : ℕ) (ts : List Token) → length ts ≤ n → (e : Stop) → more test b f n ts ≡ Err e → Claimed wide e → GoesOn R (Reaches wide true e) ts
   stops_at zero [] h e d c = absurd cc
   stops_at zero (t ∷ ts) h e d c = absurd (omega arith)
   stops_at (suc n) ts h e d c = elim (choose_err (after test ts) (Ok ([], ts)) (λ rest. next n rest) e d) [
@@ -501,18 +476,4 @@ viable_all {A} {wide} {P} test sep b f only vf = record {
         | inr k ↦ absurd (let j = k.2 in cc)
       ]
     ]))
-  ]
-
-  sure_at : (n : ℕ) (ts : List Token) → length ts ≤ n → more test b f n ts ≡ Err faults.OutOfMemory → ⊥
-  sure_at zero [] h d = absurd cc
-  sure_at zero (t ∷ ts) h d = absurd (omega arith)
-  sure_at (suc n) ts h d = elim (choose_err (after test ts) (Ok ([], ts)) (λ rest. next n rest) faults.OutOfMemory d) [
-    | inl i ↦ absurd cc
-    | inr i ↦ elim (bind_err (f i.0) (λ first. with_front (first.0 ∷ []) (more test b f n first.1)) faults.OutOfMemory i.2) [
-      | inl k ↦ vf.sure i.0 k
-      | inr a ↦ elim (bind_err (more test b f n a.0.1) (λ x. Ok ((a.0.0 ∷ []) ++ x.0, x.1)) faults.OutOfMemory a.2) [
-        | inl k ↦ sure_at n a.0.1 (shorter ts i.0 a.0.1 a.0.0 (only ts i.0 i.1) (vf.goes i.0 a.0.0 a.0.1 a.1) n h) k
-        | inr k ↦ absurd (let j = k.2 in cc)
-      ]
-    ]
   ]

@@ -9,8 +9,8 @@ use Rattle.query_lexer.specs.Options.{choose}
 use Rattle.semantics.specs.declared.aggregate.Aggregate.{Aggregate}
 use Rattle.semantics.specs.declared.aggregate.Aggregate.TheVariants as aggregates
 use Rattle.semantics.specs.Syntax.{ExpressionForm, FunctionForm, PredicateForm, over_all, over_filtered}
-use Rattle.query_parser.specs.declared.fault.GrammarFault.{GrammarFault}
-use Rattle.query_parser.specs.declared.fault.GrammarFault.TheVariants as faults
+use Rattle.query_parser.specs.Stops.{Stop}
+use Rattle.query_parser.specs.Stops as halts
 use Rattle.query_parser.specs.Fronts.{is_word, is_sign, after}
 use Rattle.query_parser.specs.Steps.{◌>>=◌, Reader, unexpected_at, over, found_or_unexpected, name_at}
 use Rattle.query_parser.specs.LeafSteps.{aggregate_at, arguments_at}
@@ -114,22 +114,22 @@ filtered_v wide IsInner left read f phrase v =
       filtered _ _ _ (IsFilter.brackets q) = λ vs i. IsFunction.filtered i q
 
 -- A fault where a set function was to be read.
-abbrev failed : GrammarFault → Result (FunctionForm × List Token) GrammarFault
+abbrev failed : Stop → Result (FunctionForm × List Token) Stop
 failed e = Err e
 
 -- Behind FILTER, where no level is left, a bracket is expected, and is too much.
 no_filter : (read : Reader PredicateForm) (f : Aggregate) (ts : List Token)
-    → (filtered_at false read f ts ≡ failed (faults.Unexpected (length ts)))
-    ⊎ ((n : ℕ) × (filtered_at false read f ts ≡ failed (faults.OverLimit n)))
+    → (filtered_at false read f ts ≡ failed (halts.unexpected (length ts)))
+    ⊎ ((n : ℕ) × (filtered_at false read f ts ≡ failed (halts.over_limit n)))
 no_filter read f ts = of_bracket (after (is_sign s.Open) ts) where
-  bracket : Option (List Token) → Result (PredicateForm × List Token) GrammarFault
+  bracket : Option (List Token) → Result (PredicateForm × List Token) Stop
   bracket o = choose o (unexpected_at ts) (λ x. Ok x) >>= λ a. over a
 
-  read_of : Option (List Token) → Result (FunctionForm × List Token) GrammarFault
+  read_of : Option (List Token) → Result (FunctionForm × List Token) Stop
   read_of o = bracket o >>= λ p. Ok (over_filtered f p.0, p.1)
 
   of_bracket : (o : Option (List Token))
-      → (read_of o ≡ failed (faults.Unexpected (length ts))) ⊎ ((n : ℕ) × (read_of o ≡ failed (faults.OverLimit n)))
+      → (read_of o ≡ failed (halts.unexpected (length ts))) ⊎ ((n : ℕ) × (read_of o ≡ failed (halts.over_limit n)))
   of_bracket None = inl refl
   of_bracket (Some r) = inr (length r, refl)
 
@@ -148,21 +148,14 @@ unfiltered_v IsInner read f = record {
     | inl h ↦ absurd cc
     | inr h ↦ subst (λ us. Stops e us) (sym (after_word_is w.Filter ts h.0 h.1)) (stops_at h.0 e h.2 c)
   ];
-  sure = λ ts d. elim (choose_err (after (is_word w.Filter) ts) (Ok (over_all f, ts)) filtered faults.OutOfMemory d) [
-    | inl h ↦ absurd cc
-    | inr h ↦ elim (no_filter read f h.0) [
-      | inl i ↦ (let k = h.2 in cc)
-      | inr i ↦ (let k = h.2 in let j = i.1 in cc)
-    ]
-  ];
 } where
   filtered : Reader FunctionForm
   filtered a = filtered_at false read f a
 
-  Stops : GrammarFault → List Token → Type 0
+  Stops : Stop → List Token → Type 0
   Stops e us = GoesOn (AfterAggregate false IsInner f) (Reaches false true e) us
 
-  before : (us : List Token) → Stops (faults.Unexpected (length us)) (tokens.Word w.Filter ∷ us)
+  before : (us : List Token) → Stops (halts.unexpected (length us)) (tokens.Word w.Filter ∷ us)
   before us = record {
     front = [];
     back = tokens.Word w.Filter ∷ us;
@@ -173,12 +166,12 @@ unfiltered_v IsInner read f = record {
     derived = λ other vs i. IsFunction.plain i;
   }
 
-  stops_at : (us : List Token) (e : GrammarFault) → filtered us ≡ Err e → Claimed false e
+  stops_at : (us : List Token) (e : Stop) → filtered us ≡ Err e → Claimed false e
       → Stops e (tokens.Word w.Filter ∷ us)
   stops_at us e d c = elim (no_filter read f us) [
-    | inl i ↦ (let k : faults.Unexpected (length us) ≡ e = cc in
+    | inl i ↦ (let k : halts.unexpected (length us) ≡ e = cc in
         subst (λ m. Stops m (tokens.Word w.Filter ∷ us)) k (before us))
-    | inr i ↦ absurd (let j = i.1 in let k : faults.OverLimit i.0 ≡ e = cc in subst (Claimed false) (sym k) c)
+    | inr i ↦ absurd (let j = i.1 in let k : halts.over_limit i.0 ≡ e = cc in subst (Claimed false) (sym k) c)
   ]
 
 -- Behind a set function.

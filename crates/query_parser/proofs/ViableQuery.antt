@@ -14,7 +14,7 @@ use Rattle.semantics.specs.Syntax.{ExpressionForm, PredicateForm, ElementForm, I
 use Rattle.semantics.specs.Leaves.{Limits, standard, Derivation, IsRepeated, IsName, IsOptional}
 use Rattle.semantics.specs.Productions.{IsExpression, IsPredicate}
 use Rattle.semantics.specs.Grammar.{IsItem, IsGroup, IsGroupBy, IsOrderBy, IsQuery, IsClause}
-use Rattle.query_parser.specs.declared.fault.GrammarFault.{GrammarFault}
+use Rattle.query_parser.specs.Stops.{Stop}
 use Rattle.query_parser.specs.Fronts.{is_word, is_sign, after}
 use Rattle.query_parser.specs.Steps.{◌>>=◌, Reader, unexpected_at, found_or_unexpected, more, name_at}
 use Rattle.query_parser.specs.ExpressionSteps.{begins_expression}
@@ -161,7 +161,7 @@ from_beside x ts = from_at ts >>= λ rest. beside x rest
 abbrev lines_beside : {A : Type 0} → A → Reader A
 lines_beside x a = choose (lines_at a) (unexpected_at a) (λ l. beside x l.1)
 
-abbrev named_lines : List Token → Result (List Token) GrammarFault
+abbrev named_lines : List Token → Result (List Token) Stop
 named_lines a = found_or_unexpected name_at a >>= λ n. cond (bytes_eq n.0 (codes "lines")) (Ok n.1) (unexpected_at a)
 
 from_way : {A : Type 0} (x : A) (ts : List Token)
@@ -178,7 +178,7 @@ from_way {A} x ts = of_from (found_or_unexpected (after (is_word w.From)) ts) wh
   of_name (tokens.Name n ∷ us) = of_test (bytes_eq n (codes "lines")) (tokens.Name n ∷ us) us
   of_name (t ∷ us) = refl
 
-  of_from : (o : Result (List Token) GrammarFault)
+  of_from : (o : Result (List Token) Stop)
       → ((o >>= λ a. named_lines a) >>= λ rest. beside x rest) ≡ (o >>= λ a. lines_beside x a)
   of_from (Ok a) = of_name a
   of_from (Err e) = refl

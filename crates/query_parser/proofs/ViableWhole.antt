@@ -10,8 +10,8 @@ use Rattle.semantics.specs.Syntax.{TreeForm}
 use Rattle.semantics.specs.Leaves.{Limits, standard}
 use Rattle.semantics.specs.Grammar.{IsQuery, DerivesWithin}
 use Rattle.semantics.specs.Prefixes.{BeginsWithin, Begins, KeepsLimits}
-use Rattle.query_parser.specs.declared.fault.GrammarFault.{GrammarFault}
-use Rattle.query_parser.specs.declared.fault.GrammarFault.TheVariants as faults
+use Rattle.query_parser.specs.Stops.{Stop}
+use Rattle.query_parser.specs.Stops as halts
 use Rattle.query_parser.specs.Steps.{◌>>=◌}
 use Rattle.query_parser.specs.QuerySteps.{query_at, at_end, whole_at}
 use Rattle.query_parser.proofs.Inversions.{bind_ok, ok_is}
@@ -37,24 +37,13 @@ read_derives ts q d =
     subst (λ (x : TreeForm). DerivesWithin standard ts x) k.1 (subst (λ (us : List Token). DerivesWithin standard us a.0.0) all (t.derived []))
 
 -- A query that was read, where nothing is left.
-abbrev ended : Result (TreeForm × List Token) GrammarFault → Result TreeForm GrammarFault
+abbrev ended : Result (TreeForm × List Token) Stop → Result TreeForm Stop
 ended read = read >>= λ x. at_end x.1 x.0
-
--- Reading wants no memory.
-pub read_sure : (ts : List Token) → whole_at standard ts ≡ Err faults.OutOfMemory → ⊥
-unfolding whole_at
-read_sure ts d = of_query (query_at standard ts) refl d where
-  of_query : (o : Result (TreeForm × List Token) GrammarFault) → query_at standard ts ≡ o
-      → ended o ≡ Err faults.OutOfMemory → ⊥
-  of_query (Err n) i h = let k : n ≡ faults.OutOfMemory = cc in
-      (query_v false).sure ts (i ∙ ap (λ (m : GrammarFault). Err m) k)
-  of_query (Ok (q, [])) i h = absurd cc
-  of_query (Ok (q, t ∷ us)) i h = absurd cc
 
 -- ---- where it stops
 
 -- The tokens before the place where reading stops, as far as `Reaches` says, begin a query.
-pub record StopsAt (wide : Bool) (e : GrammarFault) (ts : List Token) : Type 0 where
+pub record StopsAt (wide : Bool) (e : Stop) (ts : List Token) : Type 0 where
   pub front : List Token
   pub back : List Token
   pub is : ts ≡ front ++ back
@@ -71,20 +60,20 @@ begins_of limits front behind q p = record {
 }
 
 -- A token behind a query is not expected where it stands.
-at_token : (wide : Bool) (front back : List Token) → Reaches wide true (faults.Unexpected (length back)) front back
+at_token : (wide : Bool) (front back : List Token) → Reaches wide true (halts.unexpected (length back)) front back
 at_token true front back = refl
 at_token false front back = inl refl
 
 -- Where reading stops, the tokens before that begin a query.
-pub stops_beginning : (wide : Bool) (ts : List Token) (e : GrammarFault) → whole_at standard ts ≡ Err e
+pub stops_beginning : (wide : Bool) (ts : List Token) (e : Stop) → whole_at standard ts ≡ Err e
     → Claimed wide e → StopsAt wide e ts
 unfolding whole_at
 stops_beginning wide ts e d c = of_query (query_at standard ts) refl d where
-  of_query : (o : Result (TreeForm × List Token) GrammarFault) → query_at standard ts ≡ o → ended o ≡ Err e
+  of_query : (o : Result (TreeForm × List Token) Stop) → query_at standard ts ≡ o → ended o ≡ Err e
       → StopsAt wide e ts
   of_query (Err n) i h =
       let k : n ≡ e = cc in
-      let g = (query_v wide).stops ts e (i ∙ ap (λ (m : GrammarFault). Err m) k) c in
+      let g = (query_v wide).stops ts e (i ∙ ap (λ (m : Stop). Err m) k) c in
       record {
         front = g.front;
         back = g.back;
@@ -94,9 +83,9 @@ stops_beginning wide ts e d c = of_query (query_at standard ts) refl d where
       }
   of_query (Ok (q, [])) i h = absurd cc
   of_query (Ok (q, t ∷ us)) i h =
-      let k : faults.Unexpected (length (t ∷ us)) ≡ e = cc in
+      let k : halts.unexpected (length (t ∷ us)) ≡ e = cc in
       let g = (query_v wide).goes ts q (t ∷ us) i in
-      subst (λ (m : GrammarFault). StopsAt wide m ts) k record {
+      subst (λ (m : Stop). StopsAt wide m ts) k record {
         front = g.front;
         back = t ∷ us;
         is = g.is;
@@ -118,10 +107,10 @@ before_left ts front back left i h =
     take_front ts front back (length ts - left) i (omega (arith, ap length i, length-append front back, h))
 
 -- The tokens before one that is not expected begin a query.
-pub begins_unexpected : (ts : List Token) (left : ℕ) → whole_at standard ts ≡ Err (faults.Unexpected left)
+pub begins_unexpected : (ts : List Token) (left : ℕ) → whole_at standard ts ≡ Err (halts.unexpected left)
     → Begins (take (length ts - left) ts)
 begins_unexpected ts left d =
-    let g = stops_beginning true ts (faults.Unexpected left) d tt in
+    let g = stops_beginning true ts (halts.unexpected left) d tt in
     let i = before_left ts g.front g.back left g.is g.reaches in
     record { limits = limits_of true; within = subst (BeginsWithin (limits_of true)) (sym i) g.begins }
 
@@ -133,10 +122,10 @@ keeps_uncounted front (tokens.Word w.Filter) c b = KeepsLimits.filter b
 keeps_uncounted front t c b = absurd cc
 
 -- The tokens before one that is not expected keep the limits of the language.
-pub keeps_unexpected : (ts : List Token) (left : ℕ) → whole_at standard ts ≡ Err (faults.Unexpected left)
+pub keeps_unexpected : (ts : List Token) (left : ℕ) → whole_at standard ts ≡ Err (halts.unexpected left)
     → KeepsLimits (take (length ts - left) ts)
 keeps_unexpected ts left d =
-    let g = stops_beginning false ts (faults.Unexpected left) d tt in
+    let g = stops_beginning false ts (halts.unexpected left) d tt in
     elim g.reaches [
       | inl h ↦ subst KeepsLimits (sym (before_left ts g.front g.back left g.is h)) (KeepsLimits.begins g.begins)
       | inr h ↦ of_uncounted g.front g.back left g.is h g.begins
@@ -160,9 +149,9 @@ pub record FrontOver (left : ℕ) (ts : List Token) : Type 0 where
   pub counts : ends_counted false front ≡ true
 
 -- Where it is too much, there is such a front.
-pub over_front : (ts : List Token) (left : ℕ) → whole_at standard ts ≡ Err (faults.OverLimit left) → FrontOver left ts
+pub over_front : (ts : List Token) (left : ℕ) → whole_at standard ts ≡ Err (halts.over_limit left) → FrontOver left ts
 over_front ts left d =
-    let g = stops_beginning true ts (faults.OverLimit left) d tt in
+    let g = stops_beginning true ts (halts.over_limit left) d tt in
     record {
       front = g.front;
       back = g.back;

@@ -2,7 +2,7 @@
 -- What tokens derive is said in Predicates. Where a FILTER may stand, inside is what may stand in its brackets.
 use Rattle.std.specs.Prelude.{ℕ, Result, Ok, Bool, true, false, List}
 use Rattle.semantics.specs.declared.token.Token.{Token}
-use Rattle.query_parser.specs.declared.fault.GrammarFault.{GrammarFault}
+use Rattle.query_parser.specs.Stops.{Stop}
 use Rattle.semantics.specs.declared.token.Word.TheVariants as w
 use Rattle.query_lexer.specs.Options.{choose}
 use Rattle.semantics.specs.Syntax.{ExpressionForm, OperandForm, PredicateForm, truth_test, compare, between, member, null_test, column}
@@ -32,7 +32,7 @@ negated_after inside x ts = choose (after (is_word w.In) ts)
     (λ a. member_after inside.limits.literals x true a)
 
 -- The atom that an operand alone is: a bare name. Anything else asks for more than these tokens.
-unfoldable pub column_of : OperandForm → List Token → Result PredicateForm GrammarFault
+unfoldable pub column_of : OperandForm → List Token → Result PredicateForm Stop
 column_of (OperandForm.expression (ExpressionForm.name n)) ts = Ok (column n)
 column_of (OperandForm.expression (ExpressionForm.grouping ns)) ts = unexpected_at ts
 column_of (OperandForm.expression (ExpressionForm.function f)) ts = unexpected_at ts

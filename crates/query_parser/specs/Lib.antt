@@ -7,3 +7,4 @@ pub mod PredicateSteps
 pub mod GroupSteps
 pub mod KeySteps
 pub mod QuerySteps
+pub mod Stops

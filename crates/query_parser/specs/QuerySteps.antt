@@ -10,7 +10,7 @@ use Rattle.semantics.specs.Syntax.{PredicateForm, ElementForm, ItemForm, KeyForm
 use Rattle.semantics.specs.Leaves.{Limits}
 use Rattle.query_parser.specs.Fronts.{is_word, after}
 use Rattle.query_parser.specs.Steps.{◌>>=◌, Reader, unexpected_at, found_or_unexpected, listed_at, name_at}
-use Rattle.query_parser.specs.declared.fault.GrammarFault.{GrammarFault}
+use Rattle.query_parser.specs.Stops.{Stop}
 use Rattle.query_parser.specs.ExpressionSteps.{expression_at, begins_expression}
 use Rattle.query_parser.specs.PredicateSteps.{predicate_at, inside_of, any_front}
 use Rattle.query_parser.specs.GroupSteps.{all_at, group_at}
@@ -29,7 +29,7 @@ unfoldable pub items_at : Limits → Reader (List ItemForm)
 items_at limits ts = listed_at begins_expression (item_at limits) (limits.items - 1) ts
 
 -- What stands behind FROM and the name `lines`.
-unfoldable pub from_at : List Token → Result (List Token) GrammarFault
+unfoldable pub from_at : List Token → Result (List Token) Stop
 from_at ts = found_or_unexpected (after (is_word w.From)) ts >>= λ a. found_or_unexpected name_at a >>= λ n. cond (bytes_eq n.0 (codes "lines")) (Ok n.1) (unexpected_at a)
 
 -- The predicate of WHERE or HAVING behind its word, or none.
@@ -66,10 +66,10 @@ query_at limits ts = select_at limits ts >>= λ is. records_at limits is.1 >>= �
     Ok (record { items = is.0; where_condition = a.0.0; distinct_sets = a.0.1; groups = a.0.2; having_condition = b.0.0; keys = b.0.1 }, b.1)
 
 -- What was read, where nothing is left.
-abbrev pub at_end : List Token → TreeForm → Result TreeForm GrammarFault
+abbrev pub at_end : List Token → TreeForm → Result TreeForm Stop
 at_end [] q = Ok q
 at_end (x ∷ ts) q = unexpected_at (x ∷ ts)
 
 -- A query that all of the tokens are.
-unfoldable pub whole_at : Limits → List Token → Result TreeForm GrammarFault
+unfoldable pub whole_at : Limits → List Token → Result TreeForm Stop
 whole_at limits ts = query_at limits ts >>= λ x. at_end x.1 x.0

@@ -2,53 +2,55 @@
 -- as it is computed. The grammar of queries is proved sound and complete over these. What tokens derive is said in Leaves.
 use Rattle.std.specs.Prelude.{◌≡◌, ℕ, zero, suc, Bool, cond, List, [], ◌∷◌, ◌++◌, length, Option, Some, None, is_some, Result, Ok, Err}
 use Rattle.query_parser.specs.declared.fault.GrammarFault.{GrammarFault}
+use Rattle.query_parser.specs.Stops.{Stop}
 use Rattle.query_parser.specs.declared.fault.GrammarFault.TheVariants as faults
+use Rattle.query_parser.specs.Stops as halts
 use Rattle.semantics.specs.declared.token.Token.{Token}
 use Rattle.semantics.specs.declared.token.Token.TheVariants as tokens
 use Rattle.semantics.specs.declared.token.Sign.TheVariants as s
 use Rattle.query_parser.specs.Fronts.{is_sign, after}
 use Rattle.query_lexer.specs.Options.{choose}
 
--- A fault that is no want of memory is the one at which reading stops.
-abbrev pub Fails : {Y : Type 0} → GrammarFault → Result Y GrammarFault → Type 0
+-- A fault that is no want of memory is that of the place at which reading stops.
+abbrev pub Fails : {Y : Type 0} → GrammarFault → Result Y Stop → Type 0
 Fails faults.OutOfMemory read = Unit {0}
-Fails (faults.OverLimit left) read = read ≡ Err (faults.OverLimit left)
-Fails (faults.Unexpected left) read = read ≡ Err (faults.Unexpected left)
+Fails faults.OverLimit read = (left : ℕ) × (read ≡ Err (halts.over_limit left))
+Fails (faults.Unexpected left) read = read ≡ Err (halts.unexpected left)
 
 -- What a function returned, seen by view, is what is read, unless memory ran out.
-abbrev pub Gives : {X Y : Type 0} → (X → Y) → Result X GrammarFault → Result Y GrammarFault → Type 0
+abbrev pub Gives : {X Y : Type 0} → (X → Y) → Result X GrammarFault → Result Y Stop → Type 0
 Gives view (Ok x) read = read ≡ Ok (view x)
 Gives view (Err e) read = Fails e read
 
 -- What reads a value from the tokens in front.
 abbrev pub Reader : Type 0 → Type 0
-Reader A = List Token → Result (A × List Token) GrammarFault
+Reader A = List Token → Result (A × List Token) Stop
 
 infixl 10 ◌>>=◌
 -- One step that may fail, and then another.
-abbrev pub ◌>>=◌ : {A B : Type 0} → Result A GrammarFault → (A → Result B GrammarFault) → Result B GrammarFault
+abbrev pub ◌>>=◌ : {A B : Type 0} → Result A Stop → (A → Result B Stop) → Result B Stop
 (Ok x) >>= f = f x
 (Err e) >>= f = Err e
 
 -- The first of these tokens, or the end, is not expected.
-abbrev pub unexpected_at : {A : Type 0} → List Token → Result A GrammarFault
-unexpected_at ts = Err (faults.Unexpected (length ts))
+abbrev pub unexpected_at : {A : Type 0} → List Token → Result A Stop
+unexpected_at ts = Err (halts.unexpected (length ts))
 
 -- What stands before these tokens is too much.
-abbrev pub over : {A : Type 0} → List Token → Result A GrammarFault
-over ts = Err (faults.OverLimit (length ts))
+abbrev pub over : {A : Type 0} → List Token → Result A Stop
+over ts = Err (halts.over_limit (length ts))
 
 -- What stands in front, or the fault that it does not.
-abbrev pub found_or_unexpected : {A : Type 0} → (List Token → Option A) → List Token → Result A GrammarFault
+abbrev pub found_or_unexpected : {A : Type 0} → (List Token → Option A) → List Token → Result A Stop
 found_or_unexpected front ts = choose (front ts) (unexpected_at ts) (λ x. Ok x)
 
 -- What was read before, and what is still read.
-abbrev pub with_front : {A : Type 0} → List A → Result (List A × List Token) GrammarFault → Result (List A × List Token) GrammarFault
+abbrev pub with_front : {A : Type 0} → List A → Result (List A × List Token) Stop → Result (List A × List Token) Stop
 with_front front read = read >>= λ x. Ok (front ++ x.0, x.1)
 
--- The fault of a part too many: the limit where one begins, else the token.
-abbrev pub excess : (List Token → Bool) → List Token → GrammarFault
-excess begins ts = cond (begins ts) (faults.OverLimit (length ts)) (faults.Unexpected (length ts))
+-- Where a part too many stops: at the limit where one begins, else at the token.
+abbrev pub excess : (List Token → Bool) → List Token → Stop
+excess begins ts = cond (begins ts) (halts.over_limit (length ts)) (halts.unexpected (length ts))
 
 -- Further parts, each behind its separator, at most n. One too many is told by whether it begins.
 unfoldable pub more : {A : Type 0} → (Token → Bool) → (List Token → Bool) → Reader A → ℕ → Reader (List A)

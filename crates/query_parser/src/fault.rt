@@ -13,9 +13,9 @@ use std::alloc::{AllocError, AllocFailed};
 pub enum GrammarFault {
     /// A token does not continue a query: the first of the last so many tokens, or the end where it is 0.
     Unexpected(usize),
-    /// Before the last so many tokens there are more than 64 items, 8 arguments of GROUPING, 64 literals behind IN, 16
-    /// levels of GROUPING SETS, or 64 levels of brackets round a predicate, those of FILTER among them.
-    OverLimit(usize),
+    /// There are more than 64 items, 8 arguments of GROUPING, 64 literals behind IN, 16 levels of GROUPING SETS, or 64
+    /// levels of brackets round a predicate, those of FILTER among them.
+    OverLimit,
     /// There was no memory. This says nothing of the tokens.
     OutOfMemory,
 }

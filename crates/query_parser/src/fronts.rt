@@ -2,7 +2,7 @@
 
 ghost use Rattle.std.specs.Prelude.{◌≡◌, ◌<◌, length, IfOk, IfSome};
 ghost use Rattle.query_lexer.specs.Options.{Tells};
-ghost use Rattle.query_parser.specs.declared.fault.GrammarFault.TheVariants.{OverLimit, Unexpected};
+ghost use Rattle.query_parser.specs.declared.fault.GrammarFault.TheVariants.{Unexpected};
 ghost use Rattle.query_parser.specs.Fronts.{is_word, is_sign, after};
 ghost use Rattle.query_parser.specs.Steps.{Gives, found_or_unexpected, name_at};
 
@@ -62,15 +62,6 @@ pub(crate) fn unexpected_fault(tokens: &[Token]) -> GrammarFault
     ensures { result ≡ Unexpected (length tokens.now) }
 {
     GrammarFault::Unexpected(tokens.len())
-}
-
-/// The fault that what stands before these tokens is too much: `OverLimit` with their number.
-///
-/// Example: of the tokens of `shop)` it answers `OverLimit(2)`.
-pub(crate) fn over_limit_fault(tokens: &[Token]) -> GrammarFault
-    ensures { result ≡ OverLimit (length tokens.now) }
-{
-    GrammarFault::OverLimit(tokens.len())
 }
 
 /// What stands behind a reserved word that has to stand in front.

@@ -11,7 +11,7 @@ ghost use Rattle.query_parser.specs.QuerySteps.{elements_at, groups_at, set_quan
 ghost use Rattle.semantics.specs.Leaves.{standard};
 
 use crate::fault::GrammarFault;
-use crate::fronts::{after_sign, after_word, expect_sign, expect_word, over_limit_fault};
+use crate::fronts::{after_sign, after_word, expect_sign, expect_word};
 use crate::keeping::keep;
 use crate::units::{set, units};
 use query_ast::GroupingElement;
@@ -60,7 +60,7 @@ fn grouping_sets(
     ensures shorter { IfOk result (λ x. length x.1.now < length tokens.now) }
 {
     if levels == 0 {
-        return Err(over_limit_fault(tokens));
+        return Err(GrammarFault::OverLimit);
     }
     let rest = expect_word(tokens, Word::Sets)?;
     let rest = expect_sign(rest, Sign::Open)?;

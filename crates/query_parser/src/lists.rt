@@ -5,9 +5,10 @@ ghost use Rattle.semantics.specs.declared.token.Token.{Token};
 ghost use Rattle.semantics.specs.declared.token.Sign.TheVariants.{Comma};
 ghost use Rattle.query_parser.specs.Fronts.{is_sign};
 ghost use Rattle.query_parser.specs.Steps.{Gives, Reader, excess, with_front, more};
+ghost use Rattle.query_parser.specs.Stops.{fault_of};
 
 use crate::fault::GrammarFault;
-use crate::fronts::{after_sign, over_limit_fault, unexpected_fault};
+use crate::fronts::{after_sign, unexpected_fault};
 use query_lexer::{Sign, Token};
 use std::alloc::Global;
 
@@ -45,10 +46,10 @@ pub(crate) trait Listed {
 
 /// The fault of a part too many: the limit where one begins, else the token.
 fn excess<L: Listed>(tokens: &[Token]) -> GrammarFault
-    ensures { result ≡ excess L.front tokens.now }
+    ensures { result ≡ fault_of (excess L.front tokens.now) }
 {
     if L::begins(tokens) {
-        return over_limit_fault(tokens);
+        return GrammarFault::OverLimit;
     }
     unexpected_fault(tokens)
 }
@@ -57,7 +58,7 @@ fn excess<L: Listed>(tokens: &[Token]) -> GrammarFault
 /// others; and what stands behind the list.
 ///
 /// Example: of the first name `shop`, the tokens of `, cents FROM lines` and at most 1 other, `more_parts::<Names>`
-/// answers `shop` and `cents`, and the tokens of `FROM lines`; of those of `, cents, day` it answers `OverLimit(1)`.
+/// answers `shop` and `cents`, and the tokens of `FROM lines`; of those of `, cents, day` it answers `OverLimit`.
 ///
 /// # Errors
 ///

@@ -15,7 +15,7 @@ ghost use Rattle.semantics.specs.Leaves.{standard};
 use crate::arguments::grouping_names;
 use crate::atoms::{column, member, null_or_truth_test, optional_truth_test};
 use crate::fault::GrammarFault;
-use crate::fronts::{after_sign, after_word, expect_sign, expect_word, name, over_limit_fault};
+use crate::fronts::{after_sign, after_word, expect_sign, expect_word, name};
 use crate::functions::aggregate;
 use crate::keeping::keep;
 use crate::literals::literal;
@@ -70,7 +70,7 @@ fn filter(
 {
     let rest = expect_sign(tokens, Sign::Open)?;
     if levels == 0 {
-        return Err(over_limit_fault(rest));
+        return Err(GrammarFault::OverLimit);
     }
     let rest = expect_word(rest, Word::Where)?;
     let (inner, rest) = predicate(alloc, rest, levels)?;
@@ -107,7 +107,7 @@ fn set_function(
 /// `levels` levels of brackets; with 0 there may be no FILTER.
 ///
 /// Example: of the tokens of `SUM(cents) FILTER (WHERE member) AS s` and 1 it answers the set
-/// function with its FILTER, and the tokens of `AS s`; with 0 it answers `OverLimit(5)`, behind the bracket of the FILTER.
+/// function with its FILTER, and the tokens of `AS s`; with 0 it answers `OverLimit`.
 ///
 /// # Errors
 ///
@@ -350,7 +350,7 @@ fn more_conjunctions(
 /// ISO/IEC 9075-2 `<search condition>`.
 ///
 /// Example: of the tokens of `a AND b OR c GROUP BY d` and 1 it answers the OR of `a AND b` and `c`,
-/// and the tokens of `GROUP BY d`; of those of `(a)` it answers `OverLimit(2)` with 1, and the bare name
+/// and the tokens of `GROUP BY d`; of those of `(a)` it answers `OverLimit` with 1, and the bare name
 /// `a` with 2.
 ///
 /// # Errors
@@ -369,7 +369,7 @@ pub(crate) fn predicate(
     ensures shorter { IfOk result (λ x. length x.1.now < length tokens.now) }
 {
     if levels == 0 {
-        return Err(over_limit_fault(tokens));
+        return Err(GrammarFault::OverLimit); // the bracket before is one too many
     }
     let (first, rest) = conjunction(alloc, tokens, levels - 1)?;
     let (first, (others, rest)) = keep(first, more_conjunctions(alloc, rest, levels - 1))?;

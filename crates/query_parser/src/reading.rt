@@ -140,8 +140,8 @@ fn whole(alloc: Global, tokens: &[Token]) -> Result<Box<Tree>, GrammarFault>
 /// # Errors
 ///
 /// `Unexpected` with the number of the tokens that are left where the first of them does not continue
-/// a query, 0 where the end does not; `OverLimit` with the number of those behind what is too much;
-/// `OutOfMemory`, which says nothing of the tokens.
+/// a query, 0 where the end does not; `OverLimit` where some tokens in front begin a query that does
+/// not keep the limits; `OutOfMemory`, which says nothing of the tokens.
 pub fn read_query(alloc: Global, tokens: &[Token]) -> Result<Box<Tree>, GrammarFault>
     // What is read is derived.
     ensures derived { IfOk result (λ tree.
@@ -152,8 +152,10 @@ pub fn read_query(alloc: Global, tokens: &[Token]) -> Result<Box<Tree>, GrammarF
     // A token that is not expected, or the end, continues no query.
     ensures unexpected { (left : ℕ) → result ≡ Err (Unexpected left)
         → IsUnexpected tokens.now (length tokens.now - left) }
+    // Such a token is among those that are there, or it is the end.
+    ensures within { (left : ℕ) → result ≡ Err (Unexpected left) → left ≤ length tokens.now }
     // Where it is too much, some tokens in front begin a query that does not keep the limits.
-    ensures over_limit { (left : ℕ) → result ≡ Err (OverLimit left) → IsOverLimit tokens.now }
+    ensures over_limit { result ≡ Err OverLimit → IsOverLimit tokens.now }
 {
     whole(alloc, tokens)
 }

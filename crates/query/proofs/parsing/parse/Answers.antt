@@ -1,9 +1,10 @@
-use Rattle.std.proofs.Common.{rules, ◌≤◌, ◌-◌, length, subst}
+use Rattle.std.proofs.lemmas.Grind.{common_steps}
+use Rattle.std.proofs.Common.{rules, arith, ◌≤◌, ◌-◌, length, subst}
 use Rattle.semantics.specs.Prefixes.{IsUnexpected}
 use Rattle.semantics.specs.Grammar.{DerivesWithin}
 use Rattle.semantics.specs.Leaves.{standard}
 use Rattle.query_ast.specs.Syntax.{tree_form}
-use Rattle.query.proofs.Places.{unexpected_at, too_much}
+use Rattle.query.proofs.Places.{room_of, unexpected_at, too_much}
 use Rattle.query.proofs.Refusals.{told_no_token, told_unexpected, told_too_much, told_query}
 use Rattle.query.proofs.parsing.parse.Goals as goal
 
@@ -19,8 +20,15 @@ returns-in-Err-Unexpected-clause-told c =
 pub returns-in-Err-OverLimit-clause-told : goal.returns-in-Err-OverLimit-clause-told
 returns-in-Err-OverLimit-clause-told c =
     told_too_much c.args.text.now
-    (search (rules, too_much, c.in-Ok.ensures.spelled, c.as_slice.ensures.value, c.in-Err-OverLimit.ensures.over_limit, c.in-Err-OverLimit.is, c.in-Err-OverLimit.field-0-is))
+    (search (rules, too_much, c.in-Ok.ensures.spelled, c.as_slice.ensures.value, c.in-Err-OverLimit.ensures.over_limit, c.in-Err-OverLimit.is))
 
 pub returns-in-Ok-read_query-clause-told : goal.returns-in-Ok-read_query-clause-told
 returns-in-Ok-read_query-clause-told c =
     told_query c.args.text.now c.in-Ok.tokens.starts.items c.in-Ok.tokens.all.items (tree_form c.in-Ok-read_query.tree.value) (search (rules, c.if-text-gt-MAX_BYTES.false)) c.in-Ok.ensures.spelled (subst (λ ks. DerivesWithin standard ks (tree_form c.in-Ok-read_query.tree.value)) c.as_slice.ensures.value c.in-Ok-read_query.ensures.derived)
+
+pub start_of_last-byte-requires : goal.start_of_last-byte-requires
+start_of_last-byte-requires c =
+    let room : c.in-Err-Unexpected.left ≤ length c.in-Ok.tokens.starts.items =
+    room_of c.args.text.now c.in-Ok.tokens.starts.items c.in-Ok.tokens.all.items c.as_slice.result.now c.in-Err-Unexpected.left c.in-Ok.ensures.spelled c.as_slice.ensures.value
+    (c.in-Err-Unexpected.ensures.within _ (let e = c.in-Err-Unexpected.is in let f = c.in-Err-Unexpected.field-0-is in let b = c.in-Err-Unexpected.left-is in cc)) in
+    first_of (search (rules, room), grind (arith, common_steps, room))

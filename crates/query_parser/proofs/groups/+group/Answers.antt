@@ -5,6 +5,7 @@ use Rattle.semantics.specs.declared.token.Sign.TheVariants.{Comma}
 use Rattle.query_ast.specs.Syntax.{element_form}
 use Rattle.query_parser.specs.Fronts.{is_sign}
 use Rattle.query_parser.proofs.More.{unread_goes, unread_ends, unread_fails}
+use Rattle.query_parser.proofs.Levels.{no_sets}
 use Rattle.query_parser.specs.PredicateSteps.{any_front}
 use Rattle.query_parser.specs.GroupSteps.{group_at}
 use Rattle.query_parser.proofs.groups.+group.Goals as goal
@@ -25,3 +26,6 @@ more_groups-loop-behind-preserved t c =
 
 pub more_groups-returns-clause-exact : goal.more_groups-returns-clause-exact
 more_groups-returns-clause-exact t c = unread_ends (is_sign Comma) any_front (group_at c.args.levels) (map element_form c.loop-behind.all.items) c.loop-behind.rest.now _ c.loop-behind.invariant.unread c.in_default.ensures.exact
+
+pub grouping_sets-returns-then-levels-eq0-clause-exact : goal.grouping_sets-returns-then-levels-eq0-clause-exact
+grouping_sets-returns-then-levels-eq0-clause-exact t c = no_sets c.args.levels c.args.tokens.now c.if-levels-eq0.true

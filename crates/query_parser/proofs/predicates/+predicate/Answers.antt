@@ -1,4 +1,4 @@
-use Rattle.std.proofs.Common.{◌≡◌, ◌++◌, ◌∷◌, [], map, length, arith, ◌≤◌}
+use Rattle.std.proofs.Common.{◌≡◌, ◌++◌, ◌∷◌, [], map, length, rules, arith, ◌≤◌}
 use Rattle.std.proofs.lemmas.Result.{err_from_is_err_and}
 use Rattle.std.proofs.lemmas.List.{map_push}
 use Rattle.semantics.specs.declared.token.Word.TheVariants.{And, Or}
@@ -7,6 +7,7 @@ use Rattle.semantics.specs.Leaves.{standard}
 use Rattle.query_parser.specs.Fronts.{is_word}
 use Rattle.query_parser.specs.PredicateSteps.{negation_at, conjunction_at, any_front, inside_of}
 use Rattle.query_parser.proofs.More.{unread_goes, unread_ends, unread_fails}
+use Rattle.query_parser.proofs.Levels.{no_filter, no_predicate}
 use Rattle.query_parser.proofs.predicates.+predicate.Goals as goal
 
 pub more_negations-returns-in_err-part-clause-exact : goal.more_negations-returns-in_err-part-clause-exact
@@ -42,3 +43,10 @@ more_conjunctions-loop-behind-preserved t c =
 
 pub more_conjunctions-returns-clause-exact : goal.more_conjunctions-returns-clause-exact
 more_conjunctions-returns-clause-exact t c = unread_ends (is_word Or) any_front (conjunction_at (inside_of standard c.args.levels)) (map predicate_form c.loop-behind.parts.items) c.loop-behind.rest.now _ c.loop-behind.invariant.unread c.in_default.ensures.exact
+
+pub filter-returns-then-levels-eq0-clause-exact : goal.filter-returns-then-levels-eq0-clause-exact
+filter-returns-then-levels-eq0-clause-exact t c =
+    no_filter standard c.args.levels c.args.tokens.now c.in_ok-rest.rest.now c.if-levels-eq0.true c.in_ok-rest.ensures.exact
+
+pub predicate-returns-then-levels-eq0-clause-exact : goal.predicate-returns-then-levels-eq0-clause-exact
+predicate-returns-then-levels-eq0-clause-exact t c = search (rules, no_predicate, c.if-levels-eq0.true)

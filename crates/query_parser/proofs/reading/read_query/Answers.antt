@@ -1,6 +1,6 @@
 use Rattle.query_parser.proofs.Complete.{read}
 use Rattle.query_ast.specs.Syntax.{tree_form}
-use Rattle.query_parser.proofs.Faults.{derived, unexpected, over_limit}
+use Rattle.query_parser.proofs.Faults.{derived, unexpected, within, over_limit}
 use Rattle.query_parser.proofs.reading.read_query.Goals as goal
 
 pub returns-clause-derived : goal.returns-clause-derived
@@ -14,3 +14,6 @@ returns-clause-unexpected c = unexpected (λ t. tree_form t.value) c.args.tokens
 
 pub returns-clause-over_limit : goal.returns-clause-over_limit
 returns-clause-over_limit c = over_limit (λ t. tree_form t.value) c.args.tokens.now c.whole.result c.whole.ensures
+
+pub returns-clause-within : goal.returns-clause-within
+returns-clause-within c = within (λ t. tree_form t.value) c.args.tokens.now c.whole.result c.whole.ensures
