@@ -8,6 +8,19 @@ import re
 
 from reference import LINE_BYTES, TYPES, Contents, Group, key_order, lines_of, order, value_text
 
+MOST_SHOWN = 200
+HIDDEN = re.compile("[\x7f-\x9f\u202a-\u202e\u2066-\u2069]")
+
+
+def shortened(text):
+    """A text of at most 200 characters, and of a longer one the first 200, and two full stops."""
+    return text if len(text) <= MOST_SHOWN else text[:MOST_SHOWN] + ".."
+
+
+def shown(text):
+    """A text as a message shows it: in quotes, and without characters that are not shown or that turn the direction."""
+    return HIDDEN.sub(lambda it: f"\\u{ord(it[0]):04x}", value_text(shortened(text)))
+
 
 class Fault(Exception):
     """The first fault of parts."""
@@ -63,12 +76,12 @@ class Reader:
 
     def header(self):
         mark = self.value("not a part")
-        version = re.fullmatch("jlreport part ([0-9]+)", mark) if isinstance(mark, str) else None
+        version = re.fullmatch("jlreport part (0|[1-9][0-9]*)", mark) if isinstance(mark, str) else None
         self.check(version, "not a part")
-        self.check(version[1] == "1", f"a part of version {version[1]}")
+        self.check(version[1] == "1", f"a part of version {shortened(version[1])}")
         for wanted, fault in zip(self.query.texts(), ("other columns", "another query")):
             text = self.of_type(str)
-            self.check(text == wanted, f"{fault}: {value_text(text)}")
+            self.check(text == wanted, f"{fault}: {shown(text)}")
 
     def refused(self, lines):
         texts = {"too long", "not JSON", "not an object", *(f"bad value in column {it}" for it in self.query.columns)}
@@ -98,7 +111,7 @@ class Reader:
                 return self.count(members)
             case "sum" | "avg":
                 total, number = self.of_type(int), self.count(members)
-                self.check(abs(total) <= number * 2**63, "out of range")
+                self.check(-number * 2**63 <= total <= number * (2**63 - 1), "out of range")
                 return total, number
             case "min" | "max":
                 return self.held(kind)
@@ -113,6 +126,7 @@ class Reader:
             key = tuple(self.held(kind) for kind in self.query.kinds())
             self.check(last is None or last < key_order(key), "out of order")
             last, members = key_order(key), self.count(left)
+            self.check(members or not self.query.grouping, "out of range")
             left -= members
             groups[key] = Group(members, [self.state(it, members) for it in self.query.functions])
         return groups

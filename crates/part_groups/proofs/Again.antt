@@ -15,7 +15,7 @@ use Rattle.part_groups.specs.declared.shape.StateKind.{StateKind}
 use Rattle.part_groups.specs.declared.shape.StateKind.TheVariants as kind
 use Rattle.part_groups.specs.Groups.{HasKind, HasShape, HaveShape, ShapeForm}
 use Rattle.part_groups.specs.Known.{AreReadAgain, AreReadAs}
-use Rattle.part_groups.specs.Reading.{◌>>=◌, Before, Stream, after, ascending_at, collected_at, count_at, count_within, counted_at, different_at, each_at, extreme_at, fault_at, first_line, group_at, groups_at, held_at, is_above, is_held, is_sum_of, key_at, next_key_at, number_at, passed, reading_of, state_at, summed_at, value_at, value_or_fault}
+use Rattle.part_groups.specs.Reading.{◌>>=◌, Before, Stream, after, ascending_at, can_have_members, collected_at, count_at, count_within, counted_at, different_at, each_at, extreme_at, fault_at, first_line, group_at, groups_at, held_at, is_above, is_held, is_sum_of, key_at, members_at, next_key_at, number_at, passed, reading_of, state_at, summed_at, value_at, value_or_fault}
 use Rattle.part_groups.proofs.ReadAs.{IsRead, ReadsBack, and_more, and_no_more, each-again, in_turn-again, nothing-read, then_passed}
 
 -- ---- values one by one
@@ -140,12 +140,16 @@ next_key-again : (columns : List Kind) (last : Option Key) (key : Key) → lengt
 unfolding next_key_at
 next_key-again columns last key h = and_no_more (key_at columns) key key _ key (key-again columns key h) (λ s rest stands. then_passed (is_above key_order last key) OutOfOrder s _ (IsRead key rest) (refl, stands))
 
+members-again : (columns : List Kind) (left n : ℕ) → ReadsBack (members_at columns left) (count_values n) n
+unfolding members_at
+members-again columns left n = and_no_more (count_within left) (count_values n) n _ n (within-again left n) (λ s rest stands. then_passed (can_have_members columns n) OutOfRange s _ (IsRead n rest) (refl, stands))
+
 pub group-again : (shape : ShapeForm) (last : Option Key) (left : ℕ) (g : EntryForm) → HasShape shape g → ReadsBack (group_at shape last left) (group_values g) g
 unfolding group_at
 group-again shape last left g h =
     let states : List Datum = flat_map state_values g.states in
     and_more (next_key_at shape.columns last) g.key g.key _ (whole (pos g.members) ∷ states) g (next_key-again shape.columns last g.key h.key)
-    (and_more (count_within left) (count_values g.members) g.members _ states g (within-again left g.members)
+    (and_more (members_at shape.columns left) (count_values g.members) g.members _ states g (members-again shape.columns left g.members)
     (and_no_more (each_at (state_at g.members) shape.states) states g.states _ g (each-again (state_at g.members) state_values shape.states g.states (states-again g.members shape.states g.states h.states)) (λ s rest stands. (refl, stands))))
 
 all-groups : (shape : ShapeForm) (gs : List EntryForm) → HaveShape shape gs → AllByRecursion (λ g. (before : Before) → ReadsBack (group_at shape before.last before.left) (group_values g) g) gs

@@ -1,12 +1,12 @@
 -- The lines of groups that fit are read, to the last one.
-use Rattle.std.proofs.Common.{◌≡◌, ◌≢◌, ◌+◌, ◌*◌, ◌^◌, ◌<◌, ◌≤◌, ℕ, suc, ℤ, pos, negsuc, Bool, true, cond, not, List, [], ◌∷◌, ◌++◌, length, map, take, drop, Option, Some, None, Result, Ok, Err, refl, sym, ap, subst, ◌∙◌, append_assoc, length-append, arith}
+use Rattle.std.proofs.Common.{◌≡◌, ◌≢◌, ◌+◌, ◌-◌, ◌*◌, ◌^◌, ◌<◌, ◌≤◌, ℕ, suc, ℤ, pos, negsuc, Bool, true, cond, not, List, [], ◌∷◌, ◌++◌, length, map, take, drop, Option, Some, None, Result, Ok, Err, refl, sym, ap, subst, ◌∙◌, append_assoc, length-append, arith}
 use Rattle.std.proofs.lemmas.Bool.{le-leb, le-ltb, lt-ltb}
 use Rattle.std.proofs.lemmas.Int.{ints}
 use Rattle.std.proofs.lemmas.List.Concat.{flat_map-cons}
 use Rattle.std.specs.Int.{w64}
 use Rattle.std.specs.List.{AllByRecursion, AllZip}
 use Rattle.std.specs.Ordering.{is_lt}
-use Rattle.std.specs.Prelude.{◌-ℤ◌, ◌≤ℤ◌, ⊤, FitsSigned, IsTrue, flat_map, nat_le, unsigned_abs}
+use Rattle.std.specs.Prelude.{⊤, FitsSigned, IsTrue, flat_map, nat_le}
 use Rattle.std.specs.declared.cmp.Ordering.{Ordering}
 use Rattle.semantics.specs.Groups.{Key, key_order}
 use Rattle.semantics.specs.Records.{Holds, is_int64, max_line_len}
@@ -24,7 +24,7 @@ use Rattle.part_groups.specs.declared.shape.StateKind.{StateKind}
 use Rattle.part_groups.specs.declared.shape.StateKind.TheVariants as kind
 use Rattle.part_groups.specs.Groups.{ShapeForm}
 use Rattle.part_groups.specs.Known.{AreDifferentOf, AreGroupsFor, AreRead, AreStatesFor, HaveValues, IsWritable, IsAbove, IsDifferentOf, IsGroupFor, IsKeyFor, IsStateFor, IsSumOf}
-use Rattle.part_groups.specs.Reading.{◌>>=◌, Before, Stream, after, ascending_at, behind, collected_at, count_at, count_within, counted_at, different_at, each_at, extreme_at, fault_at, first_line, group_at, held_at, in_turn, is_above, is_held, is_sum_of, key_at, next_key_at, number_at, passed, reading_of, state_at, summed_at, value_at, value_or_fault}
+use Rattle.part_groups.specs.Reading.{◌>>=◌, Before, Stream, after, ascending_at, behind, can_have_members, collected_at, count_at, count_within, counted_at, different_at, each_at, extreme_at, fault_at, first_line, group_at, held_at, in_turn, is_above, is_held, is_sum_of, key_at, members_at, next_key_at, number_at, passed, reading_of, state_at, summed_at, value_at, value_or_fault}
 use Rattle.part_groups.proofs.Again.{itself, itself-all}
 use Rattle.part_groups.proofs.Facts.{AscendFrom}
 use Rattle.part_groups.proofs.ReadAs.{lines-first}
@@ -126,12 +126,9 @@ no_null (whole n) h = refl
 no_null (text s) h = refl
 no_null null h = absurd (h refl)
 
-within-bounds : (most : ℕ) (z : ℤ) → (pos 0 -ℤ pos most) ≤ℤ z → z ≤ℤ pos most → unsigned_abs z ≤ most
-within-bounds most (pos m) low high = omega (arith, ints, low, high)
-within-bounds most (negsuc m) low high = omega (arith, ints, low, high)
-
 bounded : (n : ℕ) (z : ℤ) → IsSumOf n z → is_sum_of n z ≡ true
-bounded n z h = le-leb (unsigned_abs z) (n * 2 ^ 63) (within-bounds (n * 2 ^ 63) z h.0 h.1)
+bounded n (pos s) h = le-leb s (n * (2 ^ 63 - 1)) (omega (arith, ints, h.1))
+bounded n (negsuc s) h = lt-ltb s (n * 2 ^ 63) (omega (arith, ints, h.0))
 
 -- ---- values one by one
 
@@ -262,13 +259,17 @@ next_key-read : (columns : List Kind) (last : Option Key) (key : Key) → IsKeyF
 unfolding next_key_at
 next_key-read columns last key h first = and_done (key_at columns) key key _ key (key-read columns key h) (λ s. if_true (is_above key_order last key) OutOfOrder s _ (above key_order last key first))
 
+members-read : (columns : List Kind) (left n : ℕ) → n < 2 ^ 64 → n ≤ left → IsTrue (can_have_members columns n) → Reads (members_at columns left) (count_values n) n
+unfolding members_at
+members-read columns left n small few possible = and_done (count_within left) (count_values n) n _ n (within-read left n small few) (λ s. if_true (can_have_members columns n) OutOfRange s _ possible)
+
 group-read : (shape : ShapeForm) (last : Option Key) (left : ℕ) (g : EntryForm) → left < 2 ^ 64 → IsGroupFor shape last left g → Reads (group_at shape last left) (group_values g) g
 unfolding group_at
 group-read shape last left g small h =
     let states : List Datum = flat_map state_values g.states in
     let members : g.members < 2 ^ 64 = omega (arith, small, h.members) in
     and_on (next_key_at shape.columns last) g.key g.key _ (whole (pos g.members) ∷ states) g (next_key-read shape.columns last g.key h.key h.above)
-    (and_on (count_within left) (count_values g.members) g.members _ states g (within-read left g.members members h.members)
+    (and_on (members_at shape.columns left) (count_values g.members) g.members _ states g (members-read shape.columns left g.members members h.members h.possible)
     (and_done (each_at (state_at g.members) shape.states) states g.states _ g (each-read (state_at g.members) state_values shape.states g.states (states-read g.members shape.states g.states members h.states)) (λ s. refl)))
 
 group-turns : (shape : ShapeForm) (before : Before) (gs : List EntryForm) → before.left < 2 ^ 64 → AreGroupsFor shape before gs

@@ -1,6 +1,6 @@
 -- What is known of groups that were read, whoever wrote their lines.
 use Rattle.std.specs.List.{AllByRecursion, AllZip}
-use Rattle.std.specs.Prelude.{◌≡◌, ◌≢◌, ◌*◌, ◌^◌, ◌≤◌, ⊤, ℕ, ℤ, pos, ◌-ℤ◌, ◌≤ℤ◌, List, [], ◌∷◌, ◌++◌, length, Option, Some, Ok, IfOk, IfSome, IsTrue}
+use Rattle.std.specs.Prelude.{◌≡◌, ◌≢◌, ◌*◌, ◌^◌, ◌-◌, ◌≤◌, ⊤, ℕ, ℤ, pos, ◌-ℤ◌, ◌≤ℤ◌, List, [], ◌∷◌, ◌++◌, length, Option, Some, Ok, IfOk, IfSome, IsTrue}
 use Rattle.std.specs.declared.cmp.Ordering.{Ordering}
 use Rattle.std.specs.declared.cmp.Ordering.TheVariants.{Less}
 use Rattle.semantics.specs.Groups.{Key, key_order}
@@ -13,11 +13,11 @@ use Rattle.semantics.specs.Parts.{value_text, groups_values}
 use Rattle.part_groups.specs.declared.shape.StateKind.{StateKind}
 use Rattle.part_groups.specs.declared.shape.StateKind.TheVariants as kind
 use Rattle.part_groups.specs.Groups.{ShapeForm}
-use Rattle.part_groups.specs.Reading.{Before, Stream, after, behind, groups_at, reading_of}
+use Rattle.part_groups.specs.Reading.{Before, Stream, after, behind, can_have_members, groups_at, reading_of}
 
 -- The sum of so many numbers of 64 bits.
 abbrev pub IsSumOf : ℕ → ℤ → Type 0
-IsSumOf n s = ((pos 0 -ℤ pos (n * 2 ^ 63)) ≤ℤ s) × (s ≤ℤ pos (n * 2 ^ 63))
+IsSumOf n s = ((pos 0 -ℤ pos (n * 2 ^ 63)) ≤ℤ s) × (s ≤ℤ pos (n * (2 ^ 63 - 1)))
 
 -- Each thing is before the next one.
 abbrev pub IsAscending : {X : Type 0} → (X → X → Ordering) → List X → Type 0
@@ -59,11 +59,13 @@ AreStatesFor members kinds states = AllZip (IsStateFor members) kinds states
 abbrev pub IsKeyFor : List Kind → Key → Type 0
 IsKeyFor columns key = AllZip Holds columns key
 
--- A group of this shape behind the last one, of no more members than are left.
+-- A group of this shape behind the last one, of no more members than are left, and of one at least where it
+-- has a key by grouping columns.
 pub record IsGroupFor (shape : ShapeForm) (last : Option Key) (left : ℕ) (g : EntryForm) : Type 0 where
   pub key : IsKeyFor shape.columns g.key
   pub above : IsAbove key_order last g.key
   pub members : g.members ≤ left
+  pub possible : IsTrue (can_have_members shape.columns g.members)
   pub states : AreStatesFor g.members shape.states g.states
 
 -- ---- what was written

@@ -2,7 +2,7 @@
 use Rattle.std.specs.Borrow.{Bor}
 use Rattle.std.specs.Option.{option_copied}
 use Rattle.std.specs.Ordering.{is_lt}
-use Rattle.std.specs.Prelude.{◌≡◌, ◌+◌, ◌-◌, ◌*◌, ◌^◌, ⊤, ℕ, zero, suc, ℤ, pos, negsuc, Bool, true, false, not, nat_le, nat_lt, List, [], ◌∷◌, length, Option, Some, None, option_map, Result, Ok, Err, unsigned_abs, if◌then◌else◌}
+use Rattle.std.specs.Prelude.{◌≡◌, ◌+◌, ◌-◌, ◌*◌, ◌^◌, ⊤, ℕ, zero, suc, ℤ, pos, negsuc, Bool, true, false, not, nat_le, nat_lt, List, [], ◌∷◌, length, Option, Some, None, option_map, Result, Ok, Err, if◌then◌else◌}
 use Rattle.std.specs.declared.cmp.Ordering.{Ordering}
 use Rattle.semantics.specs.Groups.{Key, key_order}
 use Rattle.semantics.specs.Records.{is_int64, max_line_len}
@@ -171,9 +171,11 @@ counted_at members s = do
   n ← count_within members s
   Ok (counted n.0, n.1)
 
--- Whether so many whole numbers of 64 bits can have this sum.
+-- Whether so many whole numbers of 64 bits can have this sum: each is from -2^63 to 2^63 - 1. (A sum below
+-- 0 is -(s + 1).)
 abbrev pub is_sum_of : ℕ → ℤ → Bool
-is_sum_of count sum = nat_le (unsigned_abs sum) (count * 2 ^ 63)
+is_sum_of count (pos s) = nat_le s (count * (2 ^ 63 - 1))
+is_sum_of count (negsuc s) = nat_lt s (count * 2 ^ 63)
 
 -- A sum, and how many numbers were added.
 unfoldable pub summed_at : ℕ → Stream → Result (FunctionState × Stream) GroupFault
@@ -229,11 +231,24 @@ next_key_at columns last s = do
   above ← passed (is_above key_order last key.0) OutOfOrder key.1
   Ok key
 
+-- Whether a group of such a key can have so many members. With grouping columns a member gave the group its
+-- key; without them there is one group, which may have none.
+abbrev pub can_have_members : List Kind → ℕ → Bool
+can_have_members [] n = true
+can_have_members (k ∷ ks) n = nat_lt 0 n
+
+-- How many members a group has: no more than are left, and as many as it can have.
+unfoldable pub members_at : List Kind → ℕ → Stream → Result (ℕ × Stream) GroupFault
+members_at columns left s = do
+  n ← count_within left s
+  possible ← passed (can_have_members columns n.0) OutOfRange n.1
+  Ok n
+
 -- A group of this shape, its key above the last one, of no more members than are left.
 unfoldable pub group_at : ShapeForm → Option Key → ℕ → Stream → Result (EntryForm × Stream) GroupFault
 group_at shape last left s = do
   key ← next_key_at shape.columns last s
-  members ← count_within left key.1
+  members ← members_at shape.columns left key.1
   states ← each_at (state_at members.0) shape.states members.1
   Ok (record { key = key.0; members = members.0; states = states.0 }, states.1)
 

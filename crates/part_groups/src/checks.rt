@@ -5,7 +5,7 @@ ghost use Rattle.semantics.specs.Records.{Holds};
 ghost use Rattle.semantics.specs.Values.{is_null, null, value_order};
 ghost use Rattle.values.specs.Datum.{data_of, datum_of};
 ghost use Rattle.part_groups.specs.Known.{IsAbove, IsSumOf};
-ghost use Rattle.part_groups.specs.Reading.{Gives, fault_at, is_above, is_held, is_sum_of, last_key, last_value, passed};
+ghost use Rattle.part_groups.specs.Reading.{Gives, can_have_members, fault_at, is_above, is_held, is_sum_of, last_key, last_value, passed};
 
 use crate::fault::{GroupFault, GroupFaultKind, GroupRefusal};
 use crate::source::Source;
@@ -70,11 +70,23 @@ pub(crate) fn is_known(value: &Value) -> bool
 }
 
 /// Whether so many whole numbers of 64 bits can have this sum.
+///
+/// Example: -2^63 is the sum of one such number, and 2^63 is not.
 pub(crate) fn is_sum_of(count: u64, sum: i128) -> bool
     ensures test { result ≡ is_sum_of count sum }
     ensures sum { IsTrue result → IsSumOf count sum }
 {
-    sum.unsigned_abs() <= u128::from(count) << 63
+    let count = i128::from(count);
+    let least = count * i128::from(i64::MIN);
+    let most = count * i128::from(i64::MAX);
+    least <= sum && sum <= most
+}
+
+/// Whether a group of such a key can have so many members: one at least, where there are grouping columns.
+pub(crate) fn can_have_members(columns: &[Kind], members: u64) -> bool
+    ensures { result ≡ can_have_members columns.now members }
+{
+    columns.is_empty() || members > 0
 }
 
 /// Whether a value is above the last one, where there is one.

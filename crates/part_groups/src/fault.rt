@@ -16,7 +16,8 @@ pub enum GroupFaultKind {
     UnexpectedValue,
     /// A key, or one of some different values, is not above the one before.
     OutOfOrder,
-    /// A count is above what it may be, or a sum is not one of so many numbers of 64 bits.
+    /// A count is above what it may be; or so many whole numbers of 64 bits have no such sum; or a group of a key by grouping
+    /// columns has no member.
     OutOfRange,
     /// The lines end before what is read does.
     EndsTooEarly,

@@ -14,6 +14,7 @@ use values::Value;
 #[tactic(auto, unfolding(crate::specs::Reading::held_at))]
 pub(crate) fn next_held<S: Source>(source: &mut S, kind: Kind) -> Result<Value, GroupRefusal>
     ensures known { S.known source.old → OnOk result (S.known source.new) }
+    ensures onward { OnOk result ((S.stream source.old).place ≤ (S.stream source.new).place) }
     ensures read { S.known source.old → Gives (λ value. (datum_of value, S.stream source.new))
         result (held_at kind (S.stream source.old)) }
     ensures held { IfOk result (λ value. Holds kind (datum_of value)) }
@@ -31,6 +32,7 @@ pub(crate) fn next_held<S: Source>(source: &mut S, kind: Kind) -> Result<Value, 
 #[tactic(auto, unfolding(crate::specs::Reading::number_at))]
 pub(crate) fn next_number<S: Source>(source: &mut S) -> Result<i128, GroupRefusal>
     ensures known { S.known source.old → OnOk result (S.known source.new) }
+    ensures onward { OnOk result ((S.stream source.old).place ≤ (S.stream source.new).place) }
     ensures read { S.known source.old → Gives (λ n. (n, S.stream source.new)) result
         (number_at (S.stream source.old)) }
 {
@@ -54,6 +56,7 @@ pub(crate) fn next_number<S: Source>(source: &mut S) -> Result<i128, GroupRefusa
 #[tactic(auto, unfolding(crate::specs::Reading::count_at))]
 pub fn next_count<S: Source>(source: &mut S) -> Result<u64, GroupRefusal>
     ensures known { S.known source.old → OnOk result (S.known source.new) }
+    ensures onward { OnOk result ((S.stream source.old).place ≤ (S.stream source.new).place) }
     ensures read { S.known source.old → Gives (λ n. (n, S.stream source.new)) result
         (count_at (S.stream source.old)) }
 {
@@ -74,6 +77,7 @@ pub fn next_count<S: Source>(source: &mut S) -> Result<u64, GroupRefusal>
 #[tactic(auto, unfolding(crate::specs::Reading::count_within))]
 pub fn next_count_within<S: Source>(source: &mut S, most: u64) -> Result<u64, GroupRefusal>
     ensures known { S.known source.old → OnOk result (S.known source.new) }
+    ensures onward { OnOk result ((S.stream source.old).place ≤ (S.stream source.new).place) }
     ensures read { S.known source.old → Gives (λ n. (n, S.stream source.new)) result
         (count_within most (S.stream source.old)) }
     ensures within { IfOk result (λ n. n ≤ most) }

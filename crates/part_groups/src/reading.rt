@@ -1,13 +1,13 @@
 //! Groups, read value by value.
-ghost use Rattle.std.specs.Prelude.{IfOk, OnOk};
+ghost use Rattle.std.specs.Prelude.{◌≤◌, IfOk, IsTrue, OnOk};
 ghost use Rattle.semantics.specs.Groups.{key_order};
 ghost use Rattle.values.specs.Datum.{data_of};
 ghost use Rattle.group_states.specs.States.{entry_of};
 ghost use Rattle.part_groups.specs.Known.{IsAbove, IsGroupFor, IsKeyFor};
 ghost use Rattle.part_groups.specs.Groups.{shape_of};
-ghost use Rattle.part_groups.specs.Reading.{Gives, group_at, key_at, last_key, next_key_at};
+ghost use Rattle.part_groups.specs.Reading.{Gives, can_have_members, group_at, key_at, last_key, members_at, next_key_at};
 
-use crate::checks::{check, is_key_above};
+use crate::checks::{can_have_members, check, is_key_above};
 use crate::fault::{GroupFaultKind, GroupRefusal};
 use crate::numbers::{next_count_within, next_held};
 use crate::shape::GroupShape;
@@ -25,6 +25,7 @@ fn next_values<S: Source>(
     columns: &[Kind],
 ) -> Result<Vec<Value>, GroupRefusal>
     ensures known { S.known source.old → OnOk result (S.known source.new) }
+    ensures onward { OnOk result ((S.stream source.old).place ≤ (S.stream source.new).place) }
     ensures read { S.known source.old
         → Gives (λ values. (data_of values.items, S.stream source.new)) result
         (key_at columns.now (S.stream source.old)) }
@@ -47,6 +48,7 @@ fn next_key<S: Source>(
     last: Option<&[Value]>,
 ) -> Result<Vec<Value>, GroupRefusal>
     ensures known { S.known source.old → OnOk result (S.known source.new) }
+    ensures onward { OnOk result ((S.stream source.old).place ≤ (S.stream source.new).place) }
     ensures read { S.known source.old
         → Gives (λ key. (data_of key.items, S.stream source.new)) result
         (next_key_at columns.now (last_key last.entry) (S.stream source.old)) }
@@ -60,7 +62,27 @@ fn next_key<S: Source>(
     Ok(key)
 }
 
-/// The next group, of this shape, its key above the last one, where there is one, and of no more members than are left.
+/// How many members the next group has, of a key by these columns: no more than are left, and as many as it can have.
+#[tactic(auto, unfolding(crate::specs::Reading::members_at))]
+fn next_members<S: Source>(source: &mut S, columns: &[Kind], left: u64) -> Result<u64, GroupRefusal>
+    ensures known { S.known source.old → OnOk result (S.known source.new) }
+    ensures onward { OnOk result ((S.stream source.old).place ≤ (S.stream source.new).place) }
+    ensures read { S.known source.old → Gives (λ n. (n, S.stream source.new)) result
+        (members_at columns.now left (S.stream source.old)) }
+    ensures within { IfOk result (λ n. n ≤ left) }
+    ensures possible { IfOk result (λ n. IsTrue (can_have_members columns.now n)) }
+{
+    let members = next_count_within(source, left)?;
+    check(
+        source,
+        can_have_members(columns, members),
+        GroupFaultKind::OutOfRange,
+    )?;
+    Ok(members)
+}
+
+/// The next group, of this shape, its key above the last one, where there is one, and of no more members than are left. With
+/// grouping columns it has a member.
 ///
 /// Example: of the lines `"Harbour"`, `2`, `7` and `2` it is, for one column of texts and one sum, the group of `Harbour`
 /// with 2 members and `State::Sum(7, 2)`. Behind the key `Quay` its key is out of order, and where 1 member is left `2`
@@ -79,13 +101,15 @@ pub fn next_group<S: Source>(
     left: u64,
 ) -> Result<GroupEntry, GroupRefusal>
     ensures known { S.known source.old → OnOk result (S.known source.new) }
+    ensures onward { OnOk result ((S.stream source.old).place ≤ (S.stream source.new).place) }
     ensures read { S.known source.old → Gives (λ group. (entry_of group, S.stream source.new))
         result (group_at (shape_of shape.now) (last_key last.entry) left (S.stream source.old)) }
     ensures fits { IfOk result
         (λ group. IsGroupFor (shape_of shape.now) (last_key last.entry) left (entry_of group)) }
 {
-    let key = next_key(alloc, source, shape.columns.as_slice(), last)?;
-    let members = next_count_within(source, left)?;
+    let columns = shape.columns.as_slice();
+    let key = next_key(alloc, source, columns, last)?;
+    let members = next_members(source, columns, left)?;
     let states = next_states(alloc, source, shape.states.as_slice(), members)?;
     Ok(GroupEntry {
         key,

@@ -1,5 +1,5 @@
 //! Where the values of a part come from.
-ghost use Rattle.std.specs.Prelude.{◌≡◌, OnOk};
+ghost use Rattle.std.specs.Prelude.{◌≡◌, ◌+◌, OnOk};
 ghost use Rattle.values.specs.Datum.{datum_of};
 ghost use Rattle.part_groups.specs.Reading.{Gives, Stream, value_at};
 
@@ -11,7 +11,7 @@ use values::Value;
 /// Example: of the lines `"Harbour"` and `2` the first call of `next` answers the text `Harbour`, after which `line`
 /// answers 1.
 pub trait Source {
-    /// The lines are known. Where they are not, nothing is said of what is read.
+    /// The lines are known. Where they are not, nothing is said of what is read but how many lines were.
     ghost known: { Self → Type 0 };
 
     /// The lines that are to come, and those before.
@@ -24,6 +24,7 @@ pub trait Source {
     /// The fault of the next line, a read that failed, or want of memory.
     fn next(&mut self) -> Result<Value, GroupRefusal>
         ensures known { known self.old → OnOk result (known self.new) }
+        ensures line { OnOk result ((stream self.new).place ≡ (stream self.old).place + 1) }
         ensures read { known self.old → Gives (λ value. (datum_of value, stream self.new)) result
             (value_at (stream self.old)) };
 

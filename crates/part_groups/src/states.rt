@@ -1,5 +1,5 @@
 //! States of set functions, read value by value.
-ghost use Rattle.std.specs.Prelude.{◌≡◌, IfOk, OnOk, None, vec_len};
+ghost use Rattle.std.specs.Prelude.{◌≡◌, ◌≤◌, IfOk, OnOk, None, vec_len};
 ghost use Rattle.values.specs.Datum.{data_of, datum_of};
 ghost use Rattle.group_states.specs.States.{state_of, states_of};
 ghost use Rattle.part_groups.specs.Known.{AreDifferentOf, AreStatesFor, IsDifferentOf, IsStateFor};
@@ -19,6 +19,7 @@ use values::Value;
 #[tactic(auto, unfolding(crate::specs::Reading::summed_at))]
 fn next_sum<S: Source>(source: &mut S, members: u64) -> Result<State, GroupRefusal>
     ensures known { S.known source.old → OnOk result (S.known source.new) }
+    ensures onward { OnOk result ((S.stream source.old).place ≤ (S.stream source.new).place) }
     ensures read { S.known source.old → Gives (λ state. (state_of state, S.stream source.new))
         result (summed_at members (S.stream source.old)) }
     ensures state { IfOk result (λ state. IsStateFor members StateKind.Sum (state_of state)) }
@@ -37,6 +38,7 @@ fn next_different<S: Source>(
     last: Option<&Value>,
 ) -> Result<Value, GroupRefusal>
     ensures known { S.known source.old → OnOk result (S.known source.new) }
+    ensures onward { OnOk result ((S.stream source.old).place ≤ (S.stream source.new).place) }
     ensures read { S.known source.old → Gives (λ value. (datum_of value, S.stream source.new))
         result (different_at kind (last_value last.entry) (S.stream source.old)) }
     ensures value { IfOk result
@@ -60,6 +62,7 @@ fn next_ascending<S: Source>(
     count: u64,
 ) -> Result<Vec<Value>, GroupRefusal>
     ensures known { S.known source.old → OnOk result (S.known source.new) }
+    ensures onward { OnOk result ((S.stream source.old).place ≤ (S.stream source.new).place) }
     ensures read { S.known source.old
         → Gives (λ values. (data_of values.items, S.stream source.new)) result
         (ascending_at kind count None (S.stream source.old)) }
@@ -83,6 +86,7 @@ fn next_collected<S: Source>(
     members: u64,
 ) -> Result<State, GroupRefusal>
     ensures known { S.known source.old → OnOk result (S.known source.new) }
+    ensures onward { OnOk result ((S.stream source.old).place ≤ (S.stream source.new).place) }
     ensures read { S.known source.old → Gives (λ state. (state_of state, S.stream source.new))
         result (collected_at kind members (S.stream source.old)) }
     ensures state { IfOk result
@@ -101,6 +105,7 @@ fn next_state<S: Source>(
     members: u64,
 ) -> Result<State, GroupRefusal>
     ensures known { S.known source.old → OnOk result (S.known source.new) }
+    ensures onward { OnOk result ((S.stream source.old).place ≤ (S.stream source.new).place) }
     ensures read { S.known source.old → Gives (λ state. (state_of state, S.stream source.new))
         result (state_at members kind (S.stream source.old)) }
     ensures state { IfOk result (λ state. IsStateFor members kind (state_of state)) }
@@ -122,6 +127,7 @@ pub(crate) fn next_states<S: Source>(
     members: u64,
 ) -> Result<Vec<State>, GroupRefusal>
     ensures known { S.known source.old → OnOk result (S.known source.new) }
+    ensures onward { OnOk result ((S.stream source.old).place ≤ (S.stream source.new).place) }
     ensures read { S.known source.old
         → Gives (λ states. (states_of states.items, S.stream source.new)) result
         (each_at (state_at members) kinds.now (S.stream source.old)) }

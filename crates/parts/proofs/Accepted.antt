@@ -6,7 +6,6 @@ use Rattle.std.proofs.lemmas.Slice.Eq.{slice_eq-Decides}
 use Rattle.std.specs.Prelude.{⊤, nat_lt}
 use Rattle.std.specs.Str.{bytes_eq}
 use Rattle.hex.specs.Hex.{encode_lower}
-use Rattle.json.specs.Print.{quoted}
 use Rattle.sha2.specs.Sha256.{sha256}
 use Rattle.semantics.specs.Canonical.{canonical_text}
 use Rattle.semantics.specs.Columns.{Field}
@@ -23,6 +22,7 @@ use Rattle.part_groups.specs.Known.{AreGroupsFor, HaveValues}
 use Rattle.part_groups.specs.Reading.{Stream, behind, count_at, count_within, groups_at, reading_of, value_at}
 use Rattle.part_groups.specs.declared.fault.GroupFault.{GroupFault}
 use Rattle.parts.specs.Faults.{Fault, FaultKind, not_a_part, other_columns, other_query, out_of_order, out_of_range, too_many_lines, wrong_checksum}
+use Rattle.parts.specs.Shown.{shown}
 use Rattle.parts.specs.ReadingParts.{◌>>=◌, all_refused_at, can_have, checksum_at, contents_at, fault_at, fault_named, group_count_at, header_at, header_of, line_fault_in, lines_at, mark_at, of_part, other_at, other_text, part_at, passed, refused_at, refused_line_at, said_at, shape_under, text_at, with_fault}
 
 -- ---- what lines of values are read as
@@ -92,7 +92,7 @@ text-read t = and_done (λ s. of_part (value_at s)) (text t ∷ []) (text t) _ t
 
 other-read : (t : List ℕ) → Reads (other_at t) (text t ∷ []) None
 unfolding other_at
-other-read t = and_done text_at (text t ∷ []) t (λ x. Ok (other_text t x.0, x.1)) None (text-read t) (λ s. ap (λ b. Ok (cond b None (Some (quoted t)), s)) (itself t))
+other-read t = and_done text_at (text t ∷ []) t (λ x. Ok (other_text t x.0, x.1)) None (text-read t) (λ s. ap (λ b. Ok (cond b None (Some (shown t)), s)) (itself t))
 
 said-read : (t : List ℕ) (kind : List ℕ → FaultKind) → Reads (said_at t kind) (text t ∷ []) tt
 unfolding said_at

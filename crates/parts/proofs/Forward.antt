@@ -4,7 +4,7 @@ use Rattle.std.specs.Prelude.{IfOk, nat_lt, nat_le, not}
 use Rattle.semantics.specs.GroupStates.{EntryForm, FunctionState, summed, collected, counted, extreme}
 use Rattle.part_groups.proofs.ReadAs.{then_known, then_passed}
 use Rattle.part_groups.specs.Reading as groups
-use Rattle.part_groups.specs.Reading.{Before, Stream, after, ascending_at, collected_at, count_at, count_in, count_within, counted_at, different_at, each_at, extreme_at, first_line, group_at, groups_at, held_at, in_turn, is_above, is_held, is_sum_of, key_at, next_key_at, number_at, number_in, reading_of, state_at, summed_at, value_at, value_or_fault}
+use Rattle.part_groups.specs.Reading.{Before, Stream, after, ascending_at, can_have_members, collected_at, count_at, count_in, count_within, counted_at, different_at, each_at, extreme_at, first_line, group_at, groups_at, held_at, in_turn, is_above, is_held, is_sum_of, key_at, members_at, next_key_at, number_at, number_in, reading_of, state_at, summed_at, value_at, value_or_fault}
 use Rattle.part_groups.specs.Groups.{ShapeForm}
 use Rattle.part_groups.specs.declared.fault.GroupFault.{GroupFault}
 use Rattle.part_groups.specs.declared.fault.GroupFaultKind.TheVariants.{OutOfOrder, OutOfRange, UnexpectedValue}
@@ -142,12 +142,18 @@ states-forward shape key members lines l =
     next lines (each_at (state_at members.0) shape.states members.1) (λ states. Ok (record { key = key.0; members = members.0; states = states.0 }, states.1))
     (from (each_at (state_at members.0) shape.states) members.1 lines (each-forward (state_at members.0) (state-forward members.0) shape.states members.1) l) (λ states n. n)
 
+members-forward : (columns : List Kind) (left : ℕ) (s : Stream) → Forward (length s.left) (members_at columns left s)
+unfolding members_at
+members-forward columns left s =
+    next (length s.left) (count_within left s) (λ n. groups.◌>>=◌ (groups.passed (can_have_members columns n.0) OutOfRange n.1) (λ u. Ok n)) (within-forward left s)
+    (λ n m. then_passed (can_have_members columns n.0) OutOfRange n.1 (λ u. Ok n) (λ (r : ℕ × Stream). length r.1.left ≤ length s.left) m)
+
 group-forward : (shape : ShapeForm) (before : Before) (s : Stream) → Forward (length s.left) (group_at shape before.last before.left s)
 unfolding group_at
 group-forward shape before s =
-    next (length s.left) (next_key_at shape.columns before.last s) (λ key. groups.◌>>=◌ (count_within before.left key.1) (states-at shape key)) (next-key-forward shape.columns before.last s)
+    next (length s.left) (next_key_at shape.columns before.last s) (λ key. groups.◌>>=◌ (members_at shape.columns before.left key.1) (states-at shape key)) (next-key-forward shape.columns before.last s)
     (λ key l.
-    next (length s.left) (count_within before.left key.1) (states-at shape key) (from (count_within before.left) key.1 (length s.left) (within-forward before.left key.1) l)
+    next (length s.left) (members_at shape.columns before.left key.1) (states-at shape key) (from (members_at shape.columns before.left) key.1 (length s.left) (members-forward shape.columns before.left key.1) l)
     (λ members m. states-forward shape key members (length s.left) m))
 
 pub groups-forward : (shape : ShapeForm) (n : ℕ) (last : Option Key) (left : ℕ) (s : Stream) → Forward (length s.left) (groups_at shape n last left s)

@@ -29,5 +29,6 @@ mod StringContent
 mod Takes
 mod Taking
 mod Trees
+mod Visible
 mod Written
 mod Joined

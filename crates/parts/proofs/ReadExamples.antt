@@ -1,5 +1,5 @@
 -- Parts that are read, computed on examples.
-use Rattle.std.proofs.Common.{◌≡◌, pos, false, List, [], ◌∷◌, codes, refl, None, Some, Ok, Err}
+use Rattle.std.proofs.Common.{◌≡◌, pos, false, List, [], ◌∷◌, ◌++◌, codes, refl, None, Some, Ok, Err}
 use Rattle.std.specs.Fmt.{digits}
 use Rattle.std.specs.Prelude.{⊤}
 use Rattle.std.specs.Str.{is_utf8, chars}
@@ -12,9 +12,10 @@ use Rattle.semantics.specs.declared.aggregate.Aggregate.TheVariants as aggregate
 use Rattle.semantics.specs.declared.kind.Kind.TheVariants as kind
 use Rattle.semantics.specs.GroupStates.{summed}
 use Rattle.semantics.specs.declared.line_fault.LineFault.TheVariants.{NoJson}
-use Rattle.part_groups.specs.Reading.{count_at, count_within, each_at, group_at, in_turn, next_key_at, number_at, summed_at, value_at}
+use Rattle.part_groups.specs.Reading.{count_at, count_within, each_at, group_at, in_turn, members_at, next_key_at, number_at, summed_at, value_at}
 use Rattle.hex.specs.Hex.{encode_with}
 use Rattle.sha2.specs.Sha256.{sha256, digest_bytes, hash_after, compress, rounds, schedule, first_words}
+use Rattle.parts.specs.Shown.{all_visible, first_of, shortened}
 use Rattle.parts.specs.Faults.{ends_too_early, no_part, not_a_part, other_columns, other_version, out_of_range, wrong_checksum}
 use Rattle.parts.specs.ReadingParts.{checksum_at, contents_at, header_of, mark_at, other_at, part_at, parts_at, parts_from, said_at, text_at, lines_at, refused_line_at, refused_at, all_refused_at, group_count_at}
 
@@ -35,7 +36,7 @@ query = record {
 
 -- what an example unfolds to be computed
 unfoldable reading_on_literals : ⊤
-unfolding serde_json_on_literals json_on_literals is_utf8 chars digits reserved_word parts_from part_at header_of mark_at value_at said_at other_at text_at contents_at lines_at refused_line_at refused_at all_refused_at group_count_at count_at number_at count_within group_at next_key_at each_at in_turn summed_at checksum_at encode_with sha256 digest_bytes hash_after compress rounds schedule first_words
+unfolding serde_json_on_literals json_on_literals is_utf8 chars digits reserved_word parts_from part_at header_of mark_at value_at said_at other_at text_at contents_at lines_at refused_line_at refused_at all_refused_at group_count_at count_at number_at count_within group_at next_key_at members_at each_at in_turn summed_at checksum_at shortened all_visible encode_with sha256 digest_bytes hash_after compress rounds schedule first_words
 reading_on_literals = tt
 
 nothing : parts_at fields query [] ≡ Err (record { part = 1; line = 1; kind = no_part })
@@ -51,10 +52,33 @@ version_2 : parts_at fields query (codes "\"jlreport part 2\"" ∷ []) ≡ Err (
 unfolding reading_on_literals
 version_2 = refl
 
+-- a version has no leading zero, and 0 is one
+version_01 : parts_at fields query (codes "\"jlreport part 01\"" ∷ []) ≡ Err (record { part = 1; line = 1; kind = not_a_part })
+unfolding reading_on_literals
+version_01 = refl
+
+version_0 : parts_at fields query (codes "\"jlreport part 0\"" ∷ []) ≡ Err (record { part = 1; line = 1; kind = other_version (codes "0") })
+unfolding reading_on_literals
+version_0 = refl
+
 -- other columns
 other_columns_at : parts_at fields query (codes "\"jlreport part 1\"" ∷ codes "\"cents:text\"" ∷ []) ≡ Err (record { part = 1; line = 2; kind = other_columns (codes "\"cents:text\"") })
 unfolding reading_on_literals
 other_columns_at = refl
+
+-- their text has U+0080, which is not shown
+hidden_columns : parts_at fields query (codes "\"jlreport part 1\"" ∷ (codes "\"a" ++ 0xC2 ∷ 0x80 ∷ codes "\"") ∷ []) ≡ Err (record { part = 1; line = 2; kind = other_columns (codes "\"a\\u0080\"") })
+unfolding reading_on_literals
+hidden_columns = refl
+
+-- the first characters of a text
+four_of_four : first_of 4 (codes "cent") ≡ codes "cent"
+unfolding reading_on_literals
+four_of_four = refl
+
+four_of_five : first_of 4 (codes "cents") ≡ codes "cent.."
+unfolding reading_on_literals
+four_of_five = refl
 
 -- only a mark
 too_early : parts_at fields query (codes "\"jlreport part 1\"" ∷ []) ≡ Err (record { part = 1; line = 2; kind = ends_too_early })

@@ -1,9 +1,12 @@
 -- The groups of records are groups that the reader of parts takes.
-use Rattle.std.proofs.Common.{◌≡◌, ◌+◌, ◌≤◌, ℕ, Bool, true, false, cond, List, [], ◌∷◌, length, map, None, refl, sym, ap, ◌∙◌, arith}
+use Rattle.std.proofs.Common.{◌≡◌, ◌+◌, ◌<◌, ◌≤◌, ℕ, Bool, true, false, cond, List, [], ◌∷◌, length, map, None, refl, sym, ap, subst, ◌∙◌, arith}
+use Rattle.std.proofs.lemmas.Bool.{lt-ltb}
 use Rattle.std.proofs.lemmas.List.{length-map}
+use Rattle.std.specs.Cmp.{tied_itself}
 use Rattle.std.specs.List.{AllByRecursion}
 use Rattle.std.specs.List.Sorted.{IsStrictlySortedBy}
-use Rattle.std.specs.Ordering.{is_gt}
+use Rattle.std.specs.Ordering.{is_eq, is_gt}
+use Rattle.std.specs.Prelude.{IsTrue}
 use Rattle.std.specs.declared.cmp.Ordering.{Ordering}
 use Rattle.semantics.specs.Aggregates.{AggregateFunction}
 use Rattle.semantics.specs.Columns.{Field}
@@ -20,12 +23,12 @@ use Rattle.tables_groups.proofs.Bags.{weigh-map}
 use Rattle.tables_groups.proofs.Covering.{lines-add_up}
 use Rattle.tables_groups.proofs.GroupsLaw.{keys-distinct}
 use Rattle.tables_groups.proofs.Order.{key_total}
-use Rattle.tables.proofs.Bags.{all-everywhere, all-filter}
+use Rattle.tables.proofs.Bags.{all-distinct, all-everywhere, all-filter}
 use Rattle.part_groups.specs.Groups.{ShapeForm}
 use Rattle.part_groups.specs.Known.{AreGroupsFor, AreStatesFor, IsAbove, IsKeyFor}
-use Rattle.part_groups.specs.Reading.{Before, after}
+use Rattle.part_groups.specs.Reading.{Before, after, can_have_members}
 use Rattle.parts.specs.ReadingParts.{can_have, shape_under, type_at}
-use Rattle.parts.proofs.Lists.{all-ordered, distinct-le, length-ordered}
+use Rattle.parts.proofs.Lists.{all-ordered, distinct-le, length-ordered, weaker}
 use Rattle.parts.proofs.RecordStates.{keys-fit, states-fit}
 
 -- ---- a list in order
@@ -59,20 +62,56 @@ members-counted set rows =
     ∙ sym (weigh-map (λ group. group.lines) (λ key. group_summary [] key (members set key rows)) (keys set rows))
     ∙ lines-add_up set [] rows
 
+-- ---- a key by grouping columns has a member
+
+-- So many records have the key, and a group of it can have so many members.
+abbrev HasMembers : List ℕ → List Row → Key → Type 0
+HasMembers set rows key = 0 < length (members set key rows)
+
+-- one more record takes no member away
+with_one : (set : List ℕ) (row : Row) (rows : List Row) (key : Key) → HasMembers set rows key → HasMembers set (row ∷ rows) key
+with_one set row rows key h =
+    elim (same_key key (project set row)) as (λ (b : Bool). 0 < length (cond b (row ∷ members set key rows) (members set key rows))) [
+      | true ↦ omega arith
+      | false ↦ h
+    ]
+
+-- the key of a record has that record
+own-member : (set : List ℕ) (row : Row) (rows : List Row) → HasMembers set (row ∷ rows) (project set row)
+own-member set row rows =
+    let same : same_key (project set row) (project set row) ≡ true = ap is_eq (tied_itself key_total (project set row)) in
+    subst (λ (b : Bool). 0 < length (cond b (row ∷ members set (project set row) rows) (members set (project set row) rows))) (sym same) (omega arith)
+
+all-members : (set : List ℕ) (rows : List Row) → AllByRecursion (HasMembers set rows) (map (project set) rows)
+all-members set [] = tt
+all-members set (row ∷ rows) = (own-member set row rows, weaker (with_one set row rows) (map (project set) rows) (all-members set rows))
+
+-- A group of these columns can have as many members as a key has.
+abbrev AreMembersFor : List Field → List ℕ → List Row → Key → Type 0
+AreMembersFor fields set rows key = IsTrue (can_have_members (map (type_at fields) set) (length (members set key rows)))
+
+members-possible : (fields : List Field) (set : List ℕ) (rows : List Row) → AllByRecursion (AreMembersFor fields set rows) (keys set rows)
+members-possible fields [] rows = (refl, tt)
+members-possible fields (place ∷ places) rows =
+    let set : List ℕ = place ∷ places in
+    all-distinct (AreMembersFor fields set rows) same_key (map (project set) rows)
+    (weaker (λ key some. lt-ltb 0 (length (members set key rows)) some) (map (project set) rows) (all-members set rows))
+
 -- ---- groups
 
--- The groups of these keys fit, one behind the other, where each key does, is above the last one and before the keys behind it,
--- and there are no more members of them all than are left.
+-- The groups of these keys fit, one behind the other, where each key does, has as many members as it can have, is above the
+-- last one and before the keys behind it, and there are no more members of them all than are left.
 entries-fit : (shape : ShapeForm) (set : List ℕ) (functions : List AggregateFunction) (rows : List Row)
     → ((key : Key) → AreStatesFor (length (members set key rows)) shape.states (map (λ f. function_state f (members set key rows)) functions))
-    → (before : Before) (ks : List Key) → AllByRecursion (IsKeyFor shape.columns) ks → AllByRecursion (IsAbove key_order before.last) ks → IsStrictlySortedBy key_order ks
+    → (before : Before) (ks : List Key) → AllByRecursion (IsKeyFor shape.columns) ks
+    → AllByRecursion (λ key. IsTrue (can_have_members shape.columns (length (members set key rows)))) ks → AllByRecursion (IsAbove key_order before.last) ks → IsStrictlySortedBy key_order ks
     → weigh (λ key. length (members set key rows)) ks ≤ before.left
     → AreGroupsFor shape before (map (entry_over set functions rows) ks)
 unfolding IsStrictlySortedBy
-entries-fit shape set functions rows states before [] fit above sorted few = tt
-entries-fit shape set functions rows states before (k ∷ ks) fit above sorted few = (
-  record { key = fit.0; above = above.0; members = omega (arith, few); states = states k },
-  entries-fit shape set functions rows states (after before (entry_over set functions rows k)) ks fit.1 sorted.0 sorted.1 (omega (arith, few)),
+entries-fit shape set functions rows states before [] fit possible above sorted few = tt
+entries-fit shape set functions rows states before (k ∷ ks) fit possible above sorted few = (
+  record { key = fit.0; above = above.0; members = omega (arith, few); possible = possible.0; states = states k },
+  entries-fit shape set functions rows states (after before (entry_over set functions rows k)) ks fit.1 possible.1 sorted.0 sorted.1 (omega (arith, few)),
 )
 
 -- the groups of records that fit are read, where no fewer members are left than there are records
@@ -86,6 +125,7 @@ groups-fit fields q rows left fit few =
     (λ key. states-fit fields q (members set key rows) (all-filter (Fits fields) (λ row. same_key key (project set row)) rows fit))
     (record { last = None; left = left }) (in_order key_order ks)
     (all-ordered key_order (IsKeyFor (map (type_at fields) set)) ks (keys-fit fields set rows fit))
+    (all-ordered key_order (AreMembersFor fields set rows) ks (members-possible fields set rows))
     (all-everywhere (IsAbove key_order None) (in_order key_order ks) (λ key. tt))
     (in_order-sorted key_total ks (keys-distinct set rows))
     (omega (arith, counted, few))

@@ -1,10 +1,12 @@
 -- The keys and the states of records that fit a schema are such as a reader of groups asks.
-use Rattle.std.proofs.Common.{◌≡◌, ◌≢◌, ◌^◌, ◌≤◌, ◌-ℤ◌, ◌≤ℤ◌, ℕ, zero, suc, ℤ, pos, Bool, true, false, true≢false, not, cond, List, [], ◌∷◌, filter, filter_map, length, map, Option, Some, None, IfSome, option_map, refl, sym, ap, subst, ◌∙◌, arith}
+use Rattle.std.proofs.Common.{◌≡◌, ◌≢◌, ◌≤◌, ℕ, zero, suc, ℤ, pos, negsuc, Bool, true, false, true≢false, not, cond, List, [], ◌∷◌, filter, filter_map, length, map, Option, Some, None, IfSome, option_map, refl, sym, ap, subst, ◌∙◌, arith}
 use Rattle.std.proofs.lemmas.Int.{ints}
 use Rattle.std.proofs.lemmas.List.{length-map}
+use Rattle.std.specs.Int.{w64}
 use Rattle.std.specs.List.{AllByRecursion, cons_option, list_all}
 use Rattle.std.specs.List.Sorted.{IsStrictlySortedBy}
 use Rattle.std.specs.Ordering.{is_gt, is_lt}
+use Rattle.std.specs.Prelude.{FitsSigned}
 use Rattle.std.specs.declared.cmp.Ordering.{Ordering}
 use Rattle.semantics.specs.Aggregates.{AggregateFunction, column_numbers, column_values, greatest, is_present, least, number_of, numbers, present, same_value, total}
 use Rattle.semantics.specs.Columns.{Field}
@@ -14,22 +16,21 @@ use Rattle.semantics.specs.Groups.{Row, keys, project, same_key, value_at}
 use Rattle.semantics.specs.Names.{distinct}
 use Rattle.semantics.specs.Records.{Fits, Holds}
 use Rattle.semantics.specs.Syntax.{TreeForm}
-use Rattle.semantics.specs.Values.{Datum, null, value_order}
+use Rattle.semantics.specs.Values.{Datum, boolean, whole, text, null, value_order}
 use Rattle.semantics.specs.declared.function.ColumnFunction.{ColumnFunction}
 use Rattle.semantics.specs.declared.function.ColumnFunction.TheVariants as function
 use Rattle.semantics.specs.declared.kind.Kind.{Kind}
+use Rattle.semantics.specs.declared.kind.Kind.TheVariants as kind
 use Rattle.query_resolve.specs.Functions.{indexed_functions}
 use Rattle.query_resolve.specs.declared.function.FilteredFunction.{FilteredFunction}
 use Rattle.part_groups.specs.Known.{AreDifferentOf, AreStatesFor, IsAscending, IsKeyFor, IsStateFor, IsSumOf}
 use Rattle.tables.proofs.Bags.{all-distinct, all-filter, all-filter_map, find-such}
 use Rattle.tables.proofs.Bound.{bound-functions}
-use Rattle.tables.proofs.Narrow.{narrow-from_fits}
 use Rattle.tables.specs.Functions.{filter_tests}
 use Rattle.tables_groups.proofs.Ascending.{in_order-sorted}
 use Rattle.tables_groups.proofs.Order.{value_total}
 use Rattle.tables_groups.proofs.Repeats.{distinct-is}
 use Rattle.tables_groups.specs.Functions.{aggregates_of, filter_at}
-use Rattle.tables_groups.specs.Rows.{IsNarrow}
 use Rattle.parts.specs.ReadingParts.{state_kind, state_kind_by, type_at}
 use Rattle.parts.proofs.Lists.{all-ordered, distinct-le, filter-le, length-ordered, weaker}
 
@@ -92,25 +93,35 @@ greatest-held k ds all = find-such (Holds k) (λ x. list_all (λ y. not (is_gt (
 
 -- ---- sums
 
--- a whole number that is neither below -2^63 nor above 2^63
-abbrev IsNarrowNumber : ℤ → Type 0
-IsNarrowNumber n = ((pos 0 -ℤ pos (2 ^ 63)) ≤ℤ n) × (n ≤ℤ pos (2 ^ 63))
+-- a whole number of 64 bits, the sum of one
+abbrev Is64Bits : ℤ → Type 0
+Is64Bits n = IsSumOf 1 n
 
-total-within : (ns : List ℤ) → AllByRecursion IsNarrowNumber ns → IsSumOf (length ns) (total ns)
+total-within : (ns : List ℤ) → AllByRecursion Is64Bits ns → IsSumOf (length ns) (total ns)
 total-within [] all = (omega (arith, ints), omega (arith, ints))
 total-within (n ∷ ns) all =
     let one = all.0 in
     let more = total-within ns all.1 in
     (omega (arith, ints, one, more), omega (arith, ints, one, more))
 
-held-narrow : (k : Kind) (d : Datum) → Holds k d → IsNarrow d
-held-narrow k d held = (narrow-from_fits (record { name = []; kind = k } ∷ []) (d ∷ []) (held, tt)).0
+whole-64_bits : (n : ℤ) → FitsSigned w64 n → Is64Bits n
+whole-64_bits (pos n) fits = let f = fits.sfits in (omega (arith, ints, f), omega (arith, ints, f))
+whole-64_bits (negsuc n) fits = let f = fits.sfits in (omega (arith, ints, f), omega (arith, ints, f))
 
-numbers-narrow : (k : Kind) (ds : List Datum) → AllByRecursion (Holds k) ds → AllByRecursion IsNarrowNumber (numbers ds)
-numbers-narrow k ds all = all-filter_map IsNarrowNumber number_of ds (weaker (λ d held. some-such IsNarrowNumber (number_of d) (held-narrow k d held)) ds all)
+-- the number of a value that a column holds, where it is one
+held-64_bits : (k : Kind) (d : Datum) → Holds k d → IfSome (number_of d) Is64Bits
+held-64_bits k null held = tt
+held-64_bits k (text s) held = tt
+held-64_bits k (boolean b) held = tt
+held-64_bits kind.Int (whole n) held = whole-64_bits n held
+held-64_bits kind.Text (whole n) held = absurd held
+held-64_bits kind.Bool (whole n) held = absurd held
+
+numbers-64_bits : (k : Kind) (ds : List Datum) → AllByRecursion (Holds k) ds → AllByRecursion Is64Bits (numbers ds)
+numbers-64_bits k ds all = all-filter_map Is64Bits number_of ds (weaker (λ d held. some-such Is64Bits (number_of d) (held-64_bits k d held)) ds all)
 
 sum-held : (k : Kind) (ds : List Datum) → AllByRecursion (Holds k) ds → IsSumOf (length (numbers ds)) (total (numbers ds))
-sum-held k ds all = total-within (numbers ds) (numbers-narrow k ds all)
+sum-held k ds all = total-within (numbers ds) (numbers-64_bits k ds all)
 
 -- ---- different values
 

@@ -1,5 +1,6 @@
 -- Groups of the shape of a query: of the forms and the types that its plan asks.
-use Rattle.std.proofs.Common.{◌≡◌, ◌<◌, ◌-◌, ℕ, zero, suc, List, [], ◌∷◌, ◌++◌, append-nil, length, map, Option, Some, None, refl, sym, subst, ◌∙◌, arith}
+use Rattle.std.proofs.Common.{◌≡◌, ◌<◌, ◌-◌, ℕ, zero, suc, ℤ, List, [], ◌∷◌, ◌++◌, append-nil, length, map, Option, Some, None, refl, sym, subst, ◌∙◌, arith}
+use Rattle.std.proofs.lemmas.Int.{ints}
 use Rattle.std.proofs.lemmas.List.Elements.{All-nil, All-push, All-weaker}
 use Rattle.std.specs.List.{AllZip}
 use Rattle.std.specs.declared.cmp.Ordering.TheVariants.{Less}
@@ -28,6 +29,7 @@ use Rattle.tables.specs.States.{PartialState}
 use Rattle.tables.proofs.Columns.{functions-columns, grouping-columns}
 use Rattle.tables_groups.proofs.Order.{key_total}
 use Rattle.tables_groups.specs.Fitting.{IsHeld}
+use Rattle.tables_groups.specs.Inside.Accumulator.{IsSumOf}
 use Rattle.tables_groups.specs.Inside.Entries.{AreStatesFor, HasFormBy, IsBehind, IsCountState, IsDistinctState, IsEntryFor, IsExtremeOf, IsExtremeState, IsRowsState, IsSumState, IsTypedEntry}
 use Rattle.tables_groups.specs.Inside.Typed.{AreColumns, HasColumn, HaveColumns, IsKeyOf}
 use Rattle.parts.specs.Gathering.{CanHold, IsLastOf, key_of, last_of}
@@ -70,10 +72,14 @@ count-form members (state.summed z n) h = elim h [ ]
 count-form members (state.extreme d) h = elim h [ ]
 count-form members (state.collected ds) h = elim h [ ]
 
+-- a sum of so many numbers of 64 bits is not above as many times 2^63
+sum-within : (n : ℕ) (z : ℤ) → known.IsSumOf n z → IsSumOf n z
+sum-within n z h = (h.0, omega (arith, ints, h.1))
+
 sum-form : (members : ℕ) (s : FunctionState) → known.IsStateFor members kind.Sum s → IsSumState members s
 sum-form members state.rows h = elim h [ ]
 sum-form members (state.counted n) h = elim h [ ]
-sum-form members (state.summed z n) h = h
+sum-form members (state.summed z n) h = (h.0, sum-within n z h.1)
 sum-form members (state.extreme d) h = elim h [ ]
 sum-form members (state.collected ds) h = elim h [ ]
 

@@ -3,7 +3,6 @@ use Rattle.std.specs.Prelude.{◌==◌, ◌-◌, ◌^◌, ◌+◌, ◌&&◌, not
 use Rattle.std.specs.Char.{is_ascii_digit}
 use Rattle.std.specs.List.{list_all, starts_with}
 use Rattle.std.specs.Str.{bytes_eq}
-use Rattle.json.specs.Print.{quoted}
 use Rattle.hex.specs.Hex.{encode_lower}
 use Rattle.sha2.specs.Sha256.{sha256}
 use Rattle.semantics.specs.Canonical.{canonical_text}
@@ -26,6 +25,7 @@ use Rattle.part_groups.specs.Reading.{Stream, count_at, count_within, groups_at,
 use Rattle.semantics.specs.Parts.{text_of, ContentsForm, columns_text, mark, values_with}
 use Rattle.query_resolve.specs.Functions.{indexed_functions}
 use Rattle.query_resolve.specs.declared.function.FilteredFunction.{FilteredFunction}
+use Rattle.parts.specs.Shown.{shortened, shown}
 use Rattle.parts.specs.Faults.{Fault, FaultKind, PartedFault, in_part, group_fault, no_part, not_a_part, other_version, other_columns, other_query, unexpected_value, out_of_order, out_of_range, wrong_checksum, too_many_lines}
 
 -- One reading and then another one, which a fault of the first ends.
@@ -65,9 +65,9 @@ text_at s = do
   t ← text_in d.0 d.1
   Ok (t, d.1)
 
--- Nothing where a text is this one, and else how the line shows it.
+-- Nothing where a text is this one, and else how a message shows it.
 abbrev pub other_text : List ℕ → List ℕ → Option (List ℕ)
-other_text wanted t = if bytes_eq t wanted then None else Some (quoted t)
+other_text wanted t = if bytes_eq t wanted then None else Some (shown t)
 
 -- A text, if it is another one than this.
 unfoldable pub other_at : List ℕ → Stream → Result (Option (List ℕ) × Stream) Fault
@@ -97,14 +97,19 @@ mark_front = codes "jlreport part "
 abbrev pub behind_front : List ℕ → List ℕ → Option (List ℕ)
 behind_front front t = if starts_with nat_eq t front then Some (drop (length front) t) else None
 
--- Whether a text is a whole number, of one digit or more.
-abbrev pub is_version : List ℕ → Bool
-is_version t = not (length t == 0) && list_all is_ascii_digit t
+-- Whether a text begins with a 0 that has more behind it.
+abbrev pub has_leading_zero : List ℕ → Bool
+has_leading_zero t = starts_with nat_eq t (codes "0") && nat_lt 1 (length t)
 
--- What is wrong with another text than the mark: it is the mark of another version, or of no part.
+-- Whether a text is a whole number: of one digit or more, and without a leading zero.
+abbrev pub is_version : List ℕ → Bool
+is_version t = not (length t == 0) && list_all is_ascii_digit t && not (has_leading_zero t)
+
+-- What is wrong with another text than the mark: it is the mark of another version, of which a message shows
+-- the first digits, or of no part.
 abbrev pub kind_of_version : Option (List ℕ) → FaultKind
 kind_of_version None = not_a_part
-kind_of_version (Some version) = if is_version version then other_version version else not_a_part
+kind_of_version (Some version) = if is_version version then other_version (shortened version) else not_a_part
 
 abbrev pub kind_of_mark : List ℕ → FaultKind
 kind_of_mark t = kind_of_version (behind_front mark_front t)

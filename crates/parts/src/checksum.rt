@@ -2,7 +2,7 @@
 ghost use Rattle.hex.specs.Hex.{encode_lower};
 ghost use Rattle.sha2.specs.Sha256.{sha256};
 ghost use Rattle.sha2.specs.Hashers.{Holds256};
-ghost use Rattle.std.specs.Prelude.{◌≡◌, ℕ, IfOk, List, OnOk, string_bytes};
+ghost use Rattle.std.specs.Prelude.{◌≡◌, ◌≤◌, ℕ, IfOk, List, OnOk, string_bytes};
 ghost use Rattle.parts.specs.Faults.{Gives};
 ghost use Rattle.parts.specs.Hashing.{HoldsText};
 ghost use Rattle.semantics.specs.Parts.{with_checksum};
@@ -106,6 +106,7 @@ pub(crate) fn next_checksum<S: Source>(
     hasher: TextHasher,
 ) -> Result<(), PartRefusal>
     ensures known { S.known source.old → OnOk result (S.known source.new) }
+    ensures onward { OnOk result ((S.stream source.old).place ≤ (S.stream source.new).place) }
     ensures read { (bytes : List ℕ) → HoldsText hasher bytes → S.known source.old
         → Gives (λ _. (tt, S.stream source.new)) result (checksum_at bytes (S.stream source.old)) }
 {

@@ -30,6 +30,7 @@ const LINES_LIMIT: u128 = 0x8000_0000_0000_0000;
 #[tactic(auto, unfolding(crate::specs::ReadingParts::lines_at))]
 fn next_lines<S: Source>(source: &mut S, before: u64) -> Result<u64, PartRefusal>
     ensures known { S.known source.old → OnOk result (S.known source.new) }
+    ensures onward { OnOk result ((S.stream source.old).place ≤ (S.stream source.new).place) }
     ensures read { S.known source.old → Gives (λ n. (n, S.stream source.new)) result
         (lines_at before (S.stream source.old)) }
     ensures few { IfOk result (λ n. before + n < 2 ^ 63) }
@@ -54,6 +55,7 @@ fn can_have(columns: &[Kind], count: u64) -> bool
 #[tactic(auto, unfolding(crate::specs::ReadingParts::group_count_at))]
 fn next_group_count<S: Source>(source: &mut S, shape: &GroupShape) -> Result<u64, PartRefusal>
     ensures known { S.known source.old → OnOk result (S.known source.new) }
+    ensures onward { OnOk result ((S.stream source.old).place ≤ (S.stream source.new).place) }
     ensures read { S.known source.old → Gives (λ n. (n, S.stream source.new)) result
         (group_count_at (shape_of shape.now) (S.stream source.old)) }
 {
@@ -111,6 +113,7 @@ pub(crate) fn next_contents<S: Source, E: Executor>(
     requires columns { string_bytes header.now.columns ≡ columns_text plan.now.fields }
     requires query { string_bytes header.now.query ≡ canonical_text plan.now.query }
     ensures known { S.known source.old → OnOk result (S.known source.new) }
+    ensures onward { OnOk result ((S.stream source.old).place ≤ (S.stream source.new).place) }
     ensures read { S.known source.old
         → Gives (λ so_far. (contents_of so_far, S.stream source.new)) result
         (contents_at plan.now.fields plan.now.query before (S.stream source.old)) }

@@ -1,5 +1,5 @@
 //! The groups of a part.
-ghost use Rattle.std.specs.Prelude.{◌≡◌, ◌++◌, ℕ, IfOk, List, None, OnOk, length};
+ghost use Rattle.std.specs.Prelude.{◌≡◌, ◌≤◌, ◌++◌, ℕ, IfOk, List, None, OnOk, length};
 ghost use Rattle.part_groups.specs.Groups.{shape_of};
 ghost use Rattle.semantics.specs.Parts.{groups_values, text_of};
 ghost use Rattle.part_groups.specs.Reading.{groups_at};
@@ -28,6 +28,7 @@ pub(crate) fn next_groups<S: Source>(
     requires none { start.last ≡ None }
     requires shape { shape_of shape.now ≡ shape_under plan.now.fields plan.now.query }
     ensures known { S.known source.old → OnOk result (S.known source.new) }
+    ensures onward { OnOk result ((S.stream source.old).place ≤ (S.stream source.new).place) }
     ensures read { S.known source.old
         → Gives (λ next. (groups_of next, S.stream source.new)) result
         (of_part (groups_at (shape_of shape.now) count None start.left (S.stream source.old))) }

@@ -1,13 +1,14 @@
 //! The first lines of a part.
-ghost use Rattle.std.specs.Prelude.{◌≡◌, IfOk, OnOk};
+ghost use Rattle.std.specs.Prelude.{◌≡◌, ◌<◌, ◌≤◌, IfOk, OnOk};
 ghost use Rattle.std.specs.Char.{is_ascii_digit};
 ghost use Rattle.std.specs.List.{list_all};
 ghost use Rattle.semantics.specs.Values as semantics;
 ghost use Rattle.parts.specs.Faults.{Gives, kind_of, other_columns, other_query, refusal_of_mark};
-ghost use Rattle.parts.specs.ReadingParts.{behind_front, header_of, is_version, kind_of_mark, mark_at, mark_in, said_at};
+ghost use Rattle.parts.specs.ReadingParts.{behind_front, has_leading_zero, header_of, is_version, kind_of_mark, mark_at, mark_in, said_at};
 ghost use Rattle.parts.specs.Texts.{IsBehind};
 
 use crate::fault::{PartFault, PartRefusal};
+use crate::shown::shortened;
 use crate::texts::{fault, next_other};
 use part_groups::{GroupRefusal, Source};
 use semantics::PartsFaultKind;
@@ -27,11 +28,18 @@ pub(crate) fn behind_front<'a>(front: &str, text: &'a str) -> Option<&'a str>
     text.strip_prefix(front)
 }
 
-/// Whether a text is a whole number, of one digit or more.
+/// Whether a text is a whole number: of one digit or more, and without a leading zero.
 fn is_version(text: &str) -> bool
     ensures { result ≡ is_version text.now }
 {
-    !text.is_empty() && are_digits(text.as_bytes())
+    !text.is_empty() && are_digits(text.as_bytes()) && !has_leading_zero(text.as_bytes())
+}
+
+/// Whether bytes begin with a 0 that has more behind it.
+fn has_leading_zero(bytes: &[u8]) -> bool
+    ensures { result ≡ has_leading_zero bytes.now }
+{
+    bytes.starts_with(b"0") && bytes.len() > 1
 }
 
 /// Whether all bytes are digits.
@@ -51,7 +59,7 @@ fn kind_of_mark(alloc: Global, text: &str) -> Result<PartsFaultKind, AllocError>
     if !is_version(version) {
         return Ok(PartsFaultKind::NotAPart);
     }
-    Ok(PartsFaultKind::OtherVersion(String::from_str(alloc, version)?))
+    Ok(PartsFaultKind::OtherVersion(shortened(alloc, version)?))
 }
 
 /// Nothing where a text is the mark, and else what is wrong with it.
@@ -83,6 +91,7 @@ fn refusal_of_mark(refusal: GroupRefusal) -> PartRefusal
 #[tactic(auto, unfolding(crate::specs::ReadingParts::mark_at))]
 fn next_mark<S: Source>(alloc: Global, source: &mut S) -> Result<(), PartRefusal>
     ensures known { S.known source.old → OnOk result (S.known source.new) }
+    ensures onward { OnOk result ((S.stream source.old).place < (S.stream source.new).place) }
     ensures read { S.known source.old → Gives (λ _. (tt, S.stream source.new)) result
         (mark_at (S.stream source.old)) }
 {
@@ -99,6 +108,7 @@ fn next_mark<S: Source>(alloc: Global, source: &mut S) -> Result<(), PartRefusal
 #[tactic(auto, unfolding(crate::specs::ReadingParts::said_at))]
 fn next_columns<S: Source>(alloc: Global, source: &mut S, columns: &str) -> Result<(), PartRefusal>
     ensures known { S.known source.old → OnOk result (S.known source.new) }
+    ensures onward { OnOk result ((S.stream source.old).place ≤ (S.stream source.new).place) }
     ensures read { S.known source.old → Gives (λ _. (tt, S.stream source.new)) result
         (said_at columns.now other_columns (S.stream source.old)) }
 {
@@ -112,6 +122,7 @@ fn next_columns<S: Source>(alloc: Global, source: &mut S, columns: &str) -> Resu
 #[tactic(auto, unfolding(crate::specs::ReadingParts::said_at))]
 fn next_query<S: Source>(alloc: Global, source: &mut S, query: &str) -> Result<(), PartRefusal>
     ensures known { S.known source.old → OnOk result (S.known source.new) }
+    ensures onward { OnOk result ((S.stream source.old).place ≤ (S.stream source.new).place) }
     ensures read { S.known source.old → Gives (λ _. (tt, S.stream source.new)) result
         (said_at query.now other_query (S.stream source.old)) }
 {
@@ -130,6 +141,7 @@ pub(crate) fn next_header<S: Source>(
     query: &str,
 ) -> Result<(), PartRefusal>
     ensures known { S.known source.old → OnOk result (S.known source.new) }
+    ensures onward { OnOk result ((S.stream source.old).place < (S.stream source.new).place) }
     ensures read { S.known source.old → Gives (λ _. (tt, S.stream source.new)) result
         (header_of columns.now query.now (S.stream source.old)) }
 {

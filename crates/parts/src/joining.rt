@@ -56,6 +56,7 @@ fn next_numbered<R: Read + Drop, E: Executor>(
     requires columns { string_bytes header.now.columns ≡ columns_text plan.now.fields }
     requires query { string_bytes header.now.query ≡ canonical_text plan.now.query }
     ensures known { IsKnown reader.old → OnOk result (IsKnown reader.new) }
+    ensures onward { OnOk result (reader.old.line < reader.new.line) }
     ensures read { IsKnown reader.old
         → GivesParts (λ partial. (contents_in partial, stream_of reader.new)) result
         (with_fault (in_part part)
@@ -91,15 +92,14 @@ fn join_rest<R: Read + Drop, E: Executor>(
 {
     contents_law();
     let mut whole = first;
-    for part in 2..u64::MAX {
-        if !reader.has_line()? {
-            return Ok(whole);
-        }
+    let mut part = 2;
+    while reader.has_line()? {
         let before = whole.lines();
         let rest = next_numbered(alloc, plan, executor, reader, header, shape, part, before)?;
         whole = whole.follow_by(executor, rest)?;
+        part += 1;
     }
-    Err(PartsRefusal::Reading)
+    Ok(whole)
 }
 
 /// The result of a plan over all inputs whose parts stand one behind the other in what a reader gives. The lines of the

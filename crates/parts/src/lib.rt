@@ -19,6 +19,7 @@ mod putting;
 mod reader;
 mod refused;
 mod shape;
+mod shown;
 mod texts;
 mod whole;
 mod writing;

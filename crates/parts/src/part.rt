@@ -35,6 +35,7 @@ pub(crate) fn next_part<S: Source, E: Executor>(
     requires columns { string_bytes header.now.columns ≡ columns_text plan.now.fields }
     requires query { string_bytes header.now.query ≡ canonical_text plan.now.query }
     ensures known { S.known source.old → OnOk result (S.known source.new) }
+    ensures onward { OnOk result ((S.stream source.old).place < (S.stream source.new).place) }
     ensures read { S.known source.old
         → Gives (λ partial. (contents_in partial, S.stream source.new)) result
         (part_at plan.now.fields plan.now.query before (S.stream source.old)) }

@@ -1,6 +1,6 @@
 //! The values of parts, read line by line.
 ghost use Rattle.std.specs.Io.KnownBytes.{IsAtEnd, Keeps};
-ghost use Rattle.std.specs.Prelude.{◌≡◌, ◌<◌, ◌≤◌, ◌+◌, ◌↔◌, [], ℕ, true, false, IfOk, OnOk, Ok, length, drop, slice_range, slice_index};
+ghost use Rattle.std.specs.Prelude.{◌≡◌, ◌<◌, ◌≤◌, ◌+◌, ◌^◌, ◌↔◌, [], ℕ, true, false, IfOk, OnOk, Ok, length, drop, slice_range, slice_index};
 ghost use Rattle.lines.specs.Clip.{clip_lines};
 ghost use Rattle.part_groups.specs.Reading.{reading_of};
 ghost use Rattle.part_text.specs.Reading.{Tells};
@@ -93,6 +93,8 @@ impl<R: Read + Drop> PartReader<R> {
         ensures same { IsKnown self.old → OnOk result (stream_of self.new ≡ stream_of self.old) }
         ensures none { IsKnown self.old
             → IfOk result (λ found. found ≡ false ↔ ((stream_of self.old).left ≡ [])) }
+        ensures line { self.new.line ≡ self.old.line }
+        ensures few { self.new.line < 2 ^ 63 }
     {
         find_line(&mut self.rounds, &mut self.place)
     }

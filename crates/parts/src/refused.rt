@@ -22,6 +22,7 @@ fn next_refused_line<S: Source>(
     last: u64,
 ) -> Result<(u64, LineFault), PartRefusal>
     ensures known { S.known source.old → OnOk result (S.known source.new) }
+    ensures onward { OnOk result ((S.stream source.old).place ≤ (S.stream source.new).place) }
     ensures read { S.known source.old → Gives (λ line. (line, S.stream source.new)) result
         (refused_line_at (fields_of columns.now) lines last (S.stream source.old)) }
     ensures within { IfOk result (λ line. line.0 ≤ lines) }
@@ -44,6 +45,7 @@ fn next_refused_lines<S: Source>(
     count: u64,
 ) -> Result<Vec<(u64, LineFault)>, PartRefusal>
     ensures known { S.known source.old → OnOk result (S.known source.new) }
+    ensures onward { OnOk result ((S.stream source.old).place ≤ (S.stream source.new).place) }
     ensures read { S.known source.old → Gives (λ refused. (refused.items, S.stream source.new))
         result (refused_at (fields_of columns.now) lines count 0 (S.stream source.old)) }
     ensures count { IfOk result (λ refused. length refused.items ≡ count) }
@@ -68,6 +70,7 @@ pub(crate) fn next_refused<S: Source>(
     lines: u64,
 ) -> Result<Vec<(u64, LineFault)>, PartRefusal>
     ensures known { S.known source.old → OnOk result (S.known source.new) }
+    ensures onward { OnOk result ((S.stream source.old).place ≤ (S.stream source.new).place) }
     ensures read { S.known source.old → Gives (λ refused. (refused.items, S.stream source.new))
         result (all_refused_at (fields_of columns.now) lines (S.stream source.old)) }
     ensures fewer { IfOk result (λ refused. length refused.items ≤ lines) }

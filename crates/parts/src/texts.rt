@@ -1,11 +1,10 @@
 //! Texts of a part, read one by one.
-ghost use Rattle.std.specs.Prelude.{◌≡◌, IfOk, IsTrue, OnOk, option_map, string_bytes};
-ghost use Rattle.json.specs.Print.{quoted};
+ghost use Rattle.std.specs.Prelude.{◌≡◌, ◌≤◌, IfOk, IsTrue, OnOk, option_map, string_bytes};
 ghost use Rattle.parts.specs.Faults.{Gives, fault_at_line, kind_of};
 ghost use Rattle.parts.specs.ReadingParts.{other_at, other_text, passed, text_at};
 
 use crate::fault::{PartFault, PartRefusal};
-use json::Writer;
+use crate::shown::shown;
 use part_groups::Source;
 use semantics::PartsFaultKind;
 use std::alloc::{AllocError, Global};
@@ -42,6 +41,7 @@ pub(crate) fn check<S: Source>(
 #[tactic(auto, unfolding(crate::specs::ReadingParts::text_at))]
 pub(crate) fn next_text<S: Source>(source: &mut S) -> Result<String, PartRefusal>
     ensures known { S.known source.old → OnOk result (S.known source.new) }
+    ensures onward { OnOk result ((S.stream source.old).place ≤ (S.stream source.new).place) }
     ensures read { S.known source.old
         → Gives (λ text. (string_bytes text, S.stream source.new)) result
         (text_at (S.stream source.old)) }
@@ -54,7 +54,7 @@ pub(crate) fn next_text<S: Source>(source: &mut S) -> Result<String, PartRefusal
     }
 }
 
-/// The next value, which is a text: nothing where it is this one, and else how its line shows it.
+/// The next value, which is a text: nothing where it is this one, and else how a message shows it.
 #[tactic(auto, unfolding(crate::specs::ReadingParts::other_at))]
 pub(crate) fn next_other<S: Source>(
     alloc: Global,
@@ -62,6 +62,7 @@ pub(crate) fn next_other<S: Source>(
     wanted: &str,
 ) -> Result<Option<String>, PartRefusal>
     ensures known { S.known source.old → OnOk result (S.known source.new) }
+    ensures onward { OnOk result ((S.stream source.old).place ≤ (S.stream source.new).place) }
     ensures read { S.known source.old
         → Gives (λ other. (option_map string_bytes other, S.stream source.new)) result
         (other_at wanted.now (S.stream source.old)) }
@@ -71,7 +72,7 @@ pub(crate) fn next_other<S: Source>(
     Ok(other)
 }
 
-/// Nothing where a text is this one, and else how its line shows it.
+/// Nothing where a text is this one, and else how a message shows it.
 fn other_text(alloc: Global, text: &str, wanted: &str) -> Result<Option<String>, AllocError>
     ensures { IfOk result (λ other. option_map string_bytes other
         ≡ other_text wanted.now text.now) }
@@ -79,17 +80,5 @@ fn other_text(alloc: Global, text: &str, wanted: &str) -> Result<Option<String>,
     if text == wanted {
         return Ok(None);
     }
-    Ok(Some(line_of_text(alloc, text)?))
-}
-
-/// A text as its line shows it: in quotes, and without a control character.
-fn line_of_text(alloc: Global, text: &str) -> Result<String, AllocError>
-    ensures { IfOk result (λ line. string_bytes line ≡ quoted text.now) }
-{
-    let mut writer = Writer::new(Vec::new(alloc));
-    writer.string(text)?;
-    match String::from_utf8(writer.into_inner()) {
-        Ok(line) => Ok(line),
-        Err(_) => unreachable!(),
-    }
+    Ok(Some(shown(alloc, text)?))
 }

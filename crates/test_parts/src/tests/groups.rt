@@ -162,6 +162,7 @@ const SHOP_FAULTS: &[(&[&[u8]], u64, GroupFaultKind)] = &[
         GroupFaultKind::OutOfRange,
     ),
     (&[b"\"Harbour\"", b"4"], 2, GroupFaultKind::OutOfRange),
+    (&[b"\"Harbour\"", b"0"], 2, GroupFaultKind::OutOfRange),
     (
         &[b"\"Harbour\"", b"2", b"\"7\""],
         3,
@@ -178,9 +179,14 @@ const SHOP_FAULTS: &[(&[&[u8]], u64, GroupFaultKind)] = &[
         GroupFaultKind::OutOfRange,
     ),
     (
-        &[b"\"Harbour\"", b"2", b"9223372036854775809", b"1"],
+        &[b"\"Harbour\"", b"2", b"9223372036854775808", b"1"],
         4,
         GroupFaultKind::OutOfRange,
+    ),
+    (
+        &[b"\"Harbour\"", b"2", b"9223372036854775807", b"1"],
+        5,
+        GroupFaultKind::EndsTooEarly,
     ),
     (
         &[b"\"Harbour\"", b"2", b"-9223372036854775809", b"1"],

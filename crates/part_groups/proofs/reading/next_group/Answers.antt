@@ -10,10 +10,10 @@ returns-in_err-states-clause-read g c = λ known.
     let key = c.in_ok-key.ensures.read known in
     let members = c.in_ok-members.ensures.read (c.in_ok-key.ensures.known known) in
     let states = c.in_err-states.ensures.read (c.in_ok-members.ensures.known (c.in_ok-key.ensures.known known)) in
-    let columns = c.as_slice.ensures.value in
-    let kinds = c.as_slice-2.ensures.value in
+    let columns = c.as_slice-columns.ensures.value in
+    let kinds = c.as_slice.ensures.value in
     let p = err_from_is_err_and c.from_residual-in_err-states.result c.from_residual-in_err-states.ensures.1 in
-    rw (p.1, p.2) (rw (← columns, key, members, ← kinds) (refused_on c.in_err-states.field-0.0 (each_at (state_at c.in_ok-members.members) c.as_slice-2.result.now (g.S.Source.stream c.next_count_within.new.source)) _ states))
+    rw (p.1, p.2) (rw (← columns, key, members, ← kinds) (refused_on c.in_err-states.field-0.0 (each_at (state_at c.in_ok-members.members) c.as_slice.result.now (g.S.Source.stream c.next_members.new.source)) _ states))
 
 pub returns-clause-read : goal.returns-clause-read
 unfolding group_at
@@ -21,6 +21,6 @@ returns-clause-read g c = λ known.
     let key = c.in_ok-key.ensures.read known in
     let members = c.in_ok-members.ensures.read (c.in_ok-key.ensures.known known) in
     let states = c.in_ok-states.ensures.read (c.in_ok-members.ensures.known (c.in_ok-key.ensures.known known)) in
-    let columns = c.as_slice.ensures.value in
-    let kinds = c.as_slice-2.ensures.value in
+    let columns = c.as_slice-columns.ensures.value in
+    let kinds = c.as_slice.ensures.value in
     rw (← columns, key, members, ← kinds, states) refl

@@ -1,4 +1,4 @@
-use Rattle.std.proofs.Common.{◌≡◌, ◌+◌, ◌++◌, ◌∷◌, [], drop, subst, take}
+use Rattle.std.proofs.Common.{◌≡◌, ◌+◌, ◌++◌, ◌∷◌, [], drop, subst, take, arith}
 use Rattle.std.proofs.lemmas.Result.{err_from_is_err_and}
 use Rattle.std.proofs.lemmas.List.{map_push, drop_more, drop_all, take_all, take_more}
 use Rattle.semantics.specs.declared.kind.Kind.TheVariants as type
@@ -31,6 +31,7 @@ loop-kind-preserved g c =
             rw e (each_goes_on held_at front _ (drop i ks) (drop (i + 1) ks) (g.S.Source.stream c.loop-kind.source) (datum_of v) (g.S.Source.stream c.next_held.new.source) (key_at ks (g.S.Source.stream c.args.source.now)) (drop_more ks i _ c.loop-kind-test.true) (c.in_ok-value.ensures.read so_far.0) so_far.1),
           );
       held = rw (e, take_more ks i type.Int c.loop-kind-test.true) (AllZip-both Holds (take i ks) front _ (datum_of v) c.loop-kind.invariant.held c.in_ok-value.ensures.held);
+      onward = omega (arith, c.loop-kind.invariant.onward, c.in_ok-value.ensures.onward);
     }
 
 pub returns-clause-read : goal.returns-clause-read

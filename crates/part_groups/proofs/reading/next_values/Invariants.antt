@@ -1,4 +1,4 @@
-use Rattle.std.proofs.Common.{◌≡◌, drop, take}
+use Rattle.std.proofs.Common.{◌≡◌, ◌≤◌, drop, take}
 use Rattle.values.specs.Datum.{data_of}
 use Rattle.part_groups.specs.Known.{IsKeyFor}
 use Rattle.part_groups.specs.Reading.{key_at}
@@ -10,4 +10,5 @@ invariant-loop-kind g l = record {
   read : g.S.Source.known l.fn.source
       → g.S.Source.known l.source × (with_front (data_of l.values.items) (key_at (drop l.kind-index l.columns) (g.S.Source.stream l.source)) ≡ key_at l.columns (g.S.Source.stream l.fn.source));
   held : IsKeyFor (take l.kind-index l.columns) (data_of l.values.items);
+  onward : (g.S.Source.stream l.fn.source).place ≤ (g.S.Source.stream l.source).place;
 }

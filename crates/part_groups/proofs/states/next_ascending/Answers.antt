@@ -38,6 +38,7 @@ loop-preserved g c =
           );
       count = omega (arith, c.in_ok-push.ensures.len, c.loop.invariant.count);
       values = rw e (ascend-push c.args.kind None (data_of items) (datum_of v) c.loop.invariant.values (subst (λ l. IsDifferentOf c.args.kind l (datum_of v)) (last ∙ last_of-from items) c.in_ok-value.ensures.value));
+      onward = omega (arith, c.loop.invariant.onward, c.in_ok-value.ensures.onward);
     }
 
 pub returns-clause-read : goal.returns-clause-read

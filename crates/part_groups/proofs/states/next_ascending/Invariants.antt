@@ -1,4 +1,4 @@
-use Rattle.std.proofs.Common.{◌≡◌, ◌-◌, None, vec_len}
+use Rattle.std.proofs.Common.{◌≡◌, ◌≤◌, ◌-◌, None, vec_len}
 use Rattle.values.specs.Datum.{data_of}
 use Rattle.part_groups.specs.Reading.{ascending_at}
 use Rattle.part_groups.proofs.Facts.{AscendFrom}
@@ -12,4 +12,5 @@ invariant-loop g l = record {
       → g.S.Source.known l.source × (with_front (data_of l.values.items) (ascending_at l.kind (l.count - l.counter) (last_of l.values.items) (g.S.Source.stream l.source)) ≡ ascending_at l.kind l.count None (g.S.Source.stream l.fn.source));
   count : vec_len l.values ≡ l.counter;
   values : AscendFrom l.kind None (data_of l.values.items);
+  onward : (g.S.Source.stream l.fn.source).place ≤ (g.S.Source.stream l.source).place;
 }

@@ -1,4 +1,4 @@
-use Rattle.std.proofs.Common.{◌≡◌, ◌+◌, ◌++◌, ◌∷◌, [], drop, subst, take}
+use Rattle.std.proofs.Common.{◌≡◌, ◌+◌, ◌++◌, ◌∷◌, [], drop, subst, take, arith}
 use Rattle.std.proofs.lemmas.Result.{err_from_is_err_and}
 use Rattle.std.proofs.lemmas.List.{map_push, drop_more, drop_all, take_all, take_more}
 use Rattle.group_states.specs.States.{state_of, states_of}
@@ -32,6 +32,7 @@ loop-kind-preserved g c =
             rw e (each_goes_on one front _ (drop i ks) (drop (i + 1) ks) (g.S.Source.stream c.loop-kind.source) (state_of v) (g.S.Source.stream c.next_state.new.source) (each_at one ks (g.S.Source.stream c.args.source.now)) (drop_more ks i _ c.loop-kind-test.true) (c.in_ok-state.ensures.read so_far.0) so_far.1),
           );
       states = rw (e, take_more ks i kind.Rows c.loop-kind-test.true) (AllZip-both (IsStateFor c.args.members) (take i ks) front _ (state_of v) c.loop-kind.invariant.states c.in_ok-state.ensures.state);
+      onward = omega (arith, c.loop-kind.invariant.onward, c.in_ok-state.ensures.onward);
     }
 
 pub returns-clause-read : goal.returns-clause-read

@@ -42,6 +42,7 @@ loop-preserved g c =
           rw next.groups
           (hashed-group c.in_ok-so_far.so_far.hasher bytes (groups_of c.loop.so_far) group (next.hashed (bytes ++ text_of (groups_values (groups_of c.loop.so_far))) (c.loop.invariant.hashed bytes holds)));
       others = differs-more c.args.start.partial c.loop.so_far.partial c.in_ok-so_far.so_far.partial c.loop.invariant.others next.others;
+      onward = omega (arith, c.loop.invariant.onward, c.in_ok-group.ensures.onward);
     }
 
 pub returns-clause-read : goal.returns-clause-read

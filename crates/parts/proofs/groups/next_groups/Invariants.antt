@@ -1,4 +1,4 @@
-use Rattle.std.proofs.Common.{◌≡◌, ◌++◌, ◌-◌, ℕ, List, None, length, option_map}
+use Rattle.std.proofs.Common.{◌≡◌, ◌≤◌, ◌++◌, ◌-◌, ℕ, List, None, length, option_map}
 use Rattle.part_groups.specs.Groups.{shape_of}
 use Rattle.semantics.specs.Parts.{groups_values, text_of}
 use Rattle.part_groups.specs.Reading.{groups_at}
@@ -17,4 +17,5 @@ invariant-loop g l = record {
   gathering : IsGathering l.plan l.so_far;
   hashed : (bytes : List ℕ) → HoldsText l.fn.start.hasher bytes → HoldsText l.so_far.hasher (bytes ++ text_of (groups_values (groups_of l.so_far)));
   others : DiffersInGroups l.fn.start.partial l.so_far.partial;
+  onward : (g.S.Source.stream l.fn.source).place ≤ (g.S.Source.stream l.source).place;
 }

@@ -24,6 +24,7 @@ loop-preserved g c =
           );
       count = omega (arith, c.in_ok-push.ensures.len, c.loop.invariant.count);
       within = rw c.in_ok-push.ensures.items (All-push (λ l. l.0 ≤ c.args.lines) c.loop.refused.items line c.loop.invariant.within c.in_ok-line.ensures.within);
+      onward = omega (arith, c.loop.invariant.onward, c.in_ok-line.ensures.onward);
     }
 
 pub returns-clause-read : goal.returns-clause-read

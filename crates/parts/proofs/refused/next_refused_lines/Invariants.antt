@@ -11,4 +11,5 @@ invariant-loop g l = record {
       × (with_front l.refused.items (refused_at (fields_of l.columns) l.lines (l.count - l.counter) l.last (g.S.Source.stream l.source)) ≡ refused_at (fields_of l.columns) l.lines l.count 0 (g.S.Source.stream l.fn.source));
   count : vec_len l.refused ≡ l.counter;
   within : All (λ line. line.0 ≤ l.lines) l.refused.items;
+  onward : (g.S.Source.stream l.fn.source).place ≤ (g.S.Source.stream l.source).place;
 }

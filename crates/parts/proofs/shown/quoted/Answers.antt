@@ -4,7 +4,7 @@ use Rattle.std.specs.Prelude.{ℕ}
 use Rattle.json.specs.Print.{print}
 use Rattle.json.specs.Token.{Token, string}
 use Rattle.part_text.proofs.Spellings.{print-one}
-use Rattle.parts.proofs.texts.line_of_text.Goals as goal
+use Rattle.parts.proofs.shown.quoted.Goals as goal
 
 pub returns : goal.returns
 returns c =
