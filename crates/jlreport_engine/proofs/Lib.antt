@@ -3,3 +3,4 @@ pub mod Explained
 pub mod Joins
 pub mod Known
 pub mod Outcomes
+pub mod Served

@@ -14,7 +14,6 @@ use semantics::{Done, JoinFault, RunFault};
 use std::alloc::Global;
 use std::io::{Read, Write};
 use std::marker::{Send, Sync};
-use std::sync::Wait;
 use std::thread::Threads;
 use tables::{Executor, Parallel, Partial};
 
@@ -38,7 +37,7 @@ use tables::{Executor, Parallel, Partial};
 /// `Run` where the join fails as a run does: by `Reading`, `OutOfMemory` or `TooManyRefused`, and nothing was written;
 /// by `WritingReport`, and a beginning of the report was written, and nothing of the list; or by `WritingRefused`, and
 /// the report was written, and a beginning of the list. It never answers `ThreadNotStarted`.
-pub fn run_join<R: Read + Drop, O: Write, E: Write, H: Threads + Wait + Sync>(
+pub fn run_join<R: Read + Drop, O: Write, E: Write, H: Threads + Sync>(
     rt: &H,
     alloc: Global,
     plan: &Plan,
@@ -77,7 +76,7 @@ pub fn run_join<R: Read + Drop, O: Write, E: Write, H: Threads + Wait + Sync>(
 /// then nothing was written. It refuses parts of inputs only where `run_join` may. `Run` where the join fails as a run
 /// to a part does: by `Reading`, `OutOfMemory` or `TooManyRefused`, and nothing was written; or by `WritingPart`, and a
 /// beginning of the part was written. It never answers `ThreadNotStarted`.
-pub fn join_partial<R: Read + Drop, O: Write, H: Threads + Wait + Sync>(
+pub fn join_partial<R: Read + Drop, O: Write, H: Threads + Sync>(
     rt: &H,
     alloc: Global,
     plan: &Plan,

@@ -1,10 +1,11 @@
 //! What the program does once its words are read.
-ghost use Rattle.std.specs.Prelude.{◌≡◌, [], ◌<◌, ◌≤◌, IfOk, Ok, OnOk, true};
-ghost use Rattle.std.specs.Io.KnownBytes.{Appends};
+ghost use Rattle.std.specs.Prelude.{◌≡◌, ◌<◌, [], ℕ, List, Err, IfErr, IfOk, IsOk, MatchResult, Ok, OnOk, true};
+ghost use Rattle.std.specs.Io.KnownBytes.{Appends, Keeps};
 ghost use Rattle.semantics.specs.Columns.{schema_of};
+ghost use Rattle.semantics.specs.Explanation.{Explains, IsAnswerable, explanation};
 ghost use Rattle.semantics.specs.Faults.{query_faults};
 ghost use Rattle.semantics.specs.Reading.{Derives};
-ghost use Rattle.semantics.specs.Explanation.{Explains, IsAnswerable, explanation};
+ghost use Rattle.semantics.specs.Serving.{EndsByClap, EndsByRun, EndsBySettings, EndsByText, EndsByWords, IsRefused, IsServed, IsTold, done_status, last_status};
 
 use crate::explaining::explanation;
 use crate::joining::{join_partial, run_join};
@@ -13,120 +14,14 @@ use crate::running::run;
 use crate::writing::put_and_flush;
 use clap::error::ErrorKind;
 use jlreport_cli::{Settings, WordsFault};
-use query::{Plan, QueryFault, check, parse};
-use semantics::{Done, JoinFault, RunFault};
+use query::{Plan, check, parse};
+use semantics::{Done, Ending, RunFault};
 use std::alloc::{AllocError, Global};
 use std::io::{Read, Write};
 use std::marker::{Send, Sync};
 use std::sync::Wait;
 use std::thread::Threads;
-use thiserror::Error;
-use values::{Schema, SchemaFault};
-
-/// Why the program ends without its report. Its text goes to standard error.
-#[derive(Debug, Drop, Error)]
-enum Ending {
-    /// A word of the command line is not UTF-8.
-    #[error("a word is not UTF-8")]
-    NotUtf8,
-    /// A number of the command line is out of its range.
-    #[error("a number is out of range")]
-    Range,
-    /// The schema is refused.
-    #[error("{0}")]
-    Schema(SchemaFault),
-    /// The query is refused.
-    #[error("{0}")]
-    Query(QueryFault),
-    /// The file is not there, or may not be read, or there was no memory to open it.
-    #[error("cannot open the file")]
-    NotOpened,
-    /// The run failed.
-    #[error("{0}")]
-    Run(RunFault),
-    /// The join failed.
-    #[error("{0}")]
-    Join(JoinFault),
-}
-
-impl Ending {
-    /// Want of memory.
-    const OUT_OF_MEMORY: Ending = Ending::Run(RunFault::OutOfMemory);
-
-    /// The status that the program ends with.
-    fn status(&self) -> u8
-        ensures { 2 ≤ result }
-    {
-        match self {
-            Ending::NotUtf8 | Ending::Range => 2,
-            Ending::Schema(fault) => schema_status(fault),
-            Ending::Query(fault) => query_status(fault),
-            Ending::NotOpened => 3,
-            Ending::Run(fault) => run_status(fault),
-            Ending::Join(fault) => join_status(fault),
-        }
-    }
-
-    /// `jlreport: `, what went wrong, and a line feed.
-    fn line(&self, alloc: Global) -> Result<String, AllocError> {
-        format!(in alloc; "jlreport: {self}\n")
-    }
-}
-
-/// The status where a schema is refused.
-fn schema_status(fault: &SchemaFault) -> u8
-    ensures { 2 ≤ result }
-{
-    match fault {
-        SchemaFault::Empty
-        | SchemaFault::BadName(_)
-        | SchemaFault::UnknownType(_)
-        | SchemaFault::RepeatedName(_)
-        | SchemaFault::TooManyColumns => 2,
-        SchemaFault::OutOfMemory => 4,
-    }
-}
-
-/// The status where a query is refused.
-fn query_status(fault: &QueryFault) -> u8
-    ensures { 2 ≤ result }
-{
-    match fault {
-        QueryFault::NoToken(_)
-        | QueryFault::Unexpected(_)
-        | QueryFault::UnknownColumn(_)
-        | QueryFault::TypesDisagree
-        | QueryFault::NotGrouped(_)
-        | QueryFault::OverLimit
-        | QueryFault::FunctionNotAllowed
-        | QueryFault::RepeatedHeader(_) => 2,
-        QueryFault::OutOfMemory => 4,
-    }
-}
-
-/// The status where a run fails.
-fn run_status(fault: &RunFault) -> u8
-    ensures { 2 ≤ result }
-{
-    match fault {
-        RunFault::Reading
-        | RunFault::WritingReport
-        | RunFault::WritingRefused
-        | RunFault::WritingPart => 3,
-        RunFault::OutOfMemory | RunFault::ThreadNotStarted => 4,
-        RunFault::TooManyRefused(_) => 5,
-    }
-}
-
-/// The status where a join fails.
-fn join_status(fault: &JoinFault) -> u8
-    ensures { 2 ≤ result }
-{
-    match fault {
-        JoinFault::Parts(_) => 6,
-        JoinFault::Run(fault) => run_status(fault),
-    }
-}
+use values::Schema;
 
 /// Does what the words ask for, and answers the status that the program ends with: 0 where no line
 /// is refused, where a part is written, or where help, the version or an explanation is asked for; 1
@@ -166,15 +61,26 @@ pub fn serve<
     ensures explains { IfOk asked.entry (λ settings. settings.explain ≡ true → result ≡ 0
         → Explains settings.columns.now settings.query.now (O.contents out.old)
         (O.contents out.new)) }
+    // The program ends as the settings ask for, or the words where there are none; it tells why where
+    // it is not done, and answers its status.
+    ensures served { MatchResult asked.entry
+        (λ settings. IsServed (λ end err_then. EndsBySettings F.FnMut opener.old opener.new
+        R.remaining settings.columns.now settings.query.now settings.file.now settings.explain
+        settings.join settings.partial settings.options.max_refused end (O.contents out.old)
+        (O.contents out.new) (E.contents err.old) err_then) result (E.contents err.new))
+        (λ fault. (opener.new ≡ opener.old) × IsServed (λ end err_then.
+        EndsByWords fault end (O.contents out.old) (O.contents out.new)
+        × Keeps (E.contents err.old) err_then) result (E.contents err.new)) }
 {
     match asked {
-        Ok(settings) => match execute(rt, alloc, settings, opener, out, err) {
-            Ok(status) => status,
-            Err(ending) => report_failure(alloc, &ending, err),
-        },
-        Err(WordsFault::Clap(error)) => report_cli_error(alloc, &error, out, err),
-        Err(WordsFault::Range) => report_failure(alloc, &Ending::Range, err),
-        Err(WordsFault::NotUtf8) => report_failure(alloc, &Ending::NotUtf8, err),
+        Ok(settings) => {
+            let end = execute(rt, alloc, settings, opener, out, err);
+            tell(alloc, end, err)
+        }
+        Err(fault) => {
+            let end = answer_words(alloc, fault, out);
+            tell(alloc, end, err)
+        }
     }
 }
 
@@ -183,10 +89,13 @@ fn plan_of(alloc: Global, settings: Settings<'_>) -> Result<Plan, Ending>
     ensures schema { IfOk result (λ plan. schema_of settings.entry.columns.now ≡ Ok plan.fields) }
     ensures query { IfOk result (λ plan. Derives settings.entry.query.now plan.query) }
     ensures faultless { IfOk result (λ plan. query_faults plan.fields plan.query ≡ []) }
+    ensures refused { IfErr result (λ ending. IsRefused settings.entry.columns.now
+        settings.entry.query.now (Err ending)) }
 {
-    let schema = Schema::parse(alloc, settings.columns).map_err(Ending::Schema)?;
-    let query = parse(alloc, settings.query).map_err(Ending::Query)?;
-    check(alloc, query, schema).map_err(Ending::Query)
+    let schema = Schema::parse(alloc, settings.columns)?;
+    let query = parse(alloc, settings.query)?;
+    let plan = check(alloc, query, schema)?;
+    Ok(plan)
 }
 
 /// Executes what is asked for: explains the query, or answers it over the file or joins the parts in it.
@@ -210,15 +119,19 @@ fn execute<
     ensures explains { settings.entry.explain ≡ true
         → OnOk result (Explains settings.entry.columns.now settings.entry.query.now
         (O.contents out.old) (O.contents out.new)) }
+    ensures ends { EndsBySettings F.FnMut opener.old opener.new R.remaining settings.entry.columns.now
+        settings.entry.query.now settings.entry.file.now settings.entry.explain
+        settings.entry.join settings.entry.partial settings.entry.options.max_refused result
+        (O.contents out.old) (O.contents out.new) (E.contents err.old) (E.contents err.new) }
 {
     let plan = plan_of(alloc, settings)?;
     if settings.explain {
         return write_explanation(alloc, &plan, out);
     }
-    let Some(reader) = opener(settings.file) else {
-        return Err(Ending::NotOpened);
-    };
-    answer(rt, alloc, &plan, settings, reader, out, err)
+    match opener(settings.file) {
+        Some(reader) => answer(rt, alloc, &plan, settings, reader, out, err),
+        None => Err(Ending::NotOpened),
+    }
 }
 
 /// Answers the query over the lines that a reader gives, or over those whose parts it gives, by a report or by a part, and
@@ -231,79 +144,112 @@ fn answer<R: Read + Drop + Send, O: Write, E: Write, H: Threads + Wait + Sync>(
     reader: R,
     out: &mut O,
     err: &mut E,
-) -> Result<u8, Ending> {
+) -> Result<u8, Ending>
+    ensures { EndsByRun settings.entry.join settings.entry.partial result
+        settings.entry.options.max_refused plan.now.fields plan.now.query (R.remaining reader)
+        (O.contents out.old) (O.contents out.new) (E.contents err.old) (E.contents err.new) }
+{
     let options = settings.options;
-    match (settings.join, settings.partial) {
-        (false, false) => run(rt, alloc, plan, options, reader, out, err)
-            .map(report_status)
-            .map_err(Ending::Run),
-        (false, true) => run_partial(rt, alloc, plan, options, reader, out)
-            .map(|_| 0)
-            .map_err(Ending::Run),
-        (true, false) => run_join(rt, alloc, plan, options, reader, out, err)
-            .map(report_status)
-            .map_err(Ending::Join),
-        (true, true) => join_partial(rt, alloc, plan, options, reader, out)
-            .map(|_| 0)
-            .map_err(Ending::Join),
-    }
+    let done = match (settings.join, settings.partial) {
+        (false, false) => run(rt, alloc, plan, options, reader, out, err)?,
+        (false, true) => run_partial(rt, alloc, plan, options, reader, out)?,
+        (true, false) => run_join(rt, alloc, plan, options, reader, out, err)?,
+        (true, true) => join_partial(rt, alloc, plan, options, reader, out)?,
+    };
+    Ok(status_done(settings.partial, done))
 }
 
-/// The status where a report is written: whether lines are refused.
-fn report_status(done: Done) -> u8 {
-    if done.refused == 0 { 0 } else { 1 }
+/// The status where a report or a part is written: 1 where lines are refused of a report, and else 0.
+fn status_done(partial: bool, done: Done) -> u8
+    ensures { result ≡ done_status partial done }
+{
+    if partial || done.refused == 0 { 0 } else { 1 }
 }
 
 /// Writes the explanation of a query.
 fn write_explanation<O: Write>(alloc: Global, plan: &Plan, out: &mut O) -> Result<u8, Ending>
-    ensures { OnOk result (Appends (O.contents out.old) (O.contents out.new)
-        (explanation plan.now.fields plan.now.query)) }
+    ensures { EndsByText (explanation plan.now.fields plan.now.query) result
+        (O.contents out.old) (O.contents out.new) }
 {
-    let Ok(text) = explanation(alloc, plan) else {
-        return Err(Ending::OUT_OF_MEMORY);
-    };
-    match put_and_flush(out, text.as_bytes()) {
+    match explanation(alloc, plan) {
+        Ok(text) => write_text(text.as_bytes(), out),
+        Err(_) => Err(Ending::OUT_OF_MEMORY),
+    }
+}
+
+/// Writes a text that is asked for in place of a report.
+fn write_text<O: Write>(text: &[u8], out: &mut O) -> Result<u8, Ending>
+    ensures { EndsByText text.now result (O.contents out.old) (O.contents out.new) }
+{
+    match put_and_flush(out, text) {
         Ok(()) => Ok(0),
         Err(_) => Err(Ending::Run(RunFault::WritingReport)),
     }
 }
 
-/// Reports on standard error why the program fails, and answers the status.
-fn report_failure<E: Write>(alloc: Global, ending: &Ending, err: &mut E) -> u8
-    ensures { 2 ≤ result }
+/// Answers words that are no settings: writes help or the version, where they ask for it, and else refuses them.
+fn answer_words<O: Write>(alloc: Global, fault: WordsFault, out: &mut O) -> Result<u8, Ending>
+    ensures { EndsByWords fault result (O.contents out.old) (O.contents out.new) }
 {
-    match ending.line(alloc) {
-        Ok(line) => {
-            let _ = put_and_flush(err, line.as_bytes());
+    match fault {
+        WordsFault::Clap(error) => answer_clap(alloc, error, out),
+        WordsFault::Range => Err(Ending::Words(WordsFault::Range)),
+        WordsFault::NotUtf8 => Err(Ending::Words(WordsFault::NotUtf8)),
+    }
+}
+
+/// Does what `clap` answers in place of settings: writes help or the version, or refuses the words.
+fn answer_clap<O: Write>(alloc: Global, error: clap::Error, out: &mut O) -> Result<u8, Ending>
+    ensures { EndsByClap error result (O.contents out.old) (O.contents out.new) }
+{
+    if error.kind() == ErrorKind::OutOfMemory {
+        return Err(Ending::OUT_OF_MEMORY);
+    }
+    if error.use_stderr() {
+        return Err(Ending::Words(WordsFault::Clap(error)));
+    }
+    match error.to_string(alloc) {
+        Ok(text) => write_text(text.as_bytes(), out),
+        Err(_) => Err(Ending::OUT_OF_MEMORY),
+    }
+}
+
+/// The status of an end. Where it is none that is done, standard error is told why; where there is no memory for that text,
+/// it is told that.
+fn tell<E: Write>(alloc: Global, end: Result<u8, Ending>, err: &mut E) -> u8
+    ensures status { result ≡ last_status end }
+    ensures told { IsTold end (E.contents err.old) (E.contents err.new) }
+    ensures done { result < 2 → IsOk end }
+{
+    match end {
+        Ok(status) => status,
+        Err(ending) => {
+            match line_of(alloc, &ending) {
+                Ok(line) => try_to_put(err, line.as_bytes()),
+                Err(_) => try_to_put(err, b"jlreport: out of memory\n"),
+            }
             ending.status()
-        }
-        Err(_) => {
-            let _ = put_and_flush(err, b"jlreport: out of memory\n");
-            Ending::OUT_OF_MEMORY.status()
         }
     }
 }
 
-/// Reports what `clap` answers in place of settings: help and the version on standard output, a fault of the words on
-/// standard error.
-fn report_cli_error<O: Write, E: Write>(
-    alloc: Global,
-    error: &clap::Error,
-    out: &mut O,
-    err: &mut E,
-) -> u8 {
-    if error.kind() == ErrorKind::OutOfMemory {
-        return report_failure(alloc, &Ending::OUT_OF_MEMORY, err);
-    }
-    let Ok(text) = error.to_string(alloc) else {
-        return report_failure(alloc, &Ending::OUT_OF_MEMORY, err);
-    };
-    if error.use_stderr() {
-        let _ = put_and_flush(err, text.as_bytes());
-        return 2;
-    }
-    match put_and_flush(out, text.as_bytes()) {
-        Ok(()) => 0,
-        Err(_) => report_failure(alloc, &Ending::Run(RunFault::WritingReport), err),
+/// Writes a text as far as it goes.
+fn try_to_put<E: Write>(err: &mut E, text: &[u8])
+    ensures { (front : List ℕ) × Appends (E.contents err.old) (E.contents err.new) front }
+{
+    let _ = put_and_flush(err, text);
+}
+
+/// What is told of an ending: the text of `clap`, where it refused the words, and else `jlreport: `, what went wrong, and a
+/// line feed.
+fn line_of(alloc: Global, ending: &Ending) -> Result<String, AllocError> {
+    match ending {
+        Ending::Words(WordsFault::Clap(error)) => error.to_string(alloc),
+        Ending::Words(WordsFault::Range | WordsFault::NotUtf8)
+        | Ending::Schema(_)
+        | Ending::Query(_)
+        | Ending::NotOpened
+        | Ending::Run(_)
+        | Ending::Join(_) => format!(in alloc; "jlreport: {ending}\n"),
     }
 }
