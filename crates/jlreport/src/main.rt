@@ -6,11 +6,36 @@ use jlreport_cli::{Settings, WordsFault, settings};
 use jlreport_engine::serve;
 use std::alloc::{AllocError, Global};
 use std::fs::File;
+use std::io::{Read, Stdin};
 use std::marker::Sync;
 use std::process::ExitCode;
 use std::sync::Wait;
 use std::thread::Threads;
 use std::{env, io};
+
+/// What is read: a file, or standard input from where it stands.
+#[derive(Drop)]
+enum Source {
+    File(File),
+    Standard(Stdin),
+}
+
+impl Read for Source {
+    fn read(&mut self, buffer: &mut [u8]) -> io::Result<usize> {
+        match self {
+            Source::File(file) => file.read(buffer),
+            Source::Standard(input) => input.read(buffer),
+        }
+    }
+}
+
+/// What the word for FILE names: standard input where it is `-`, and else the file of this path, unless it cannot be opened.
+fn open(rt: &HostRuntime, word: &str) -> Option<Source> {
+    if word == "-" {
+        return Some(Source::Standard(rt.stdin()));
+    }
+    File::open(rt, word).ok().map(Source::File)
+}
 
 /// Want of memory, in place of settings.
 fn out_of_memory(error: AllocError) -> WordsFault {
@@ -38,7 +63,7 @@ fn serve_here(
     asked: Result<Settings<'_>, WordsFault>,
 ) -> u8 {
     let (mut out, mut err) = (rt.stdout(), rt.stderr());
-    let mut opener = |path: &str| File::open(rt, path).ok();
+    let mut opener = |word: &str| open(rt, word);
     serve(threads, rt.alloc(), asked, &mut opener, &mut out, &mut err)
 }
 

@@ -23,7 +23,8 @@ const VERSION: &str = "1.2.0";
 const ABOUT: &str = "Answers one SQL aggregate query over a file of JSON lines";
 
 /// What help says of the columns.
-const COLUMNS_HELP: &str = "The columns that the query can name, as NAME:TYPE,NAME:TYPE,..";
+const COLUMNS_HELP: &str =
+    "The columns that the query can name, as NAME:TYPE,.. with TYPE int, text or bool";
 
 /// What help says of the query.
 const QUERY_HELP: &str = "The query to answer";
@@ -50,7 +51,8 @@ const PARTIAL_HELP: &str =
 const JOIN_HELP: &str = "Read parts, one behind the other, in place of lines";
 
 /// What help says of the file.
-const FILE_HELP: &str = "The file to read, with one JSON object on each line, or parts";
+const FILE_HELP: &str =
+    "The file to read, with one JSON object on each line, or parts; - is standard input";
 
 /// What stands at the end of the help that `-h` shows.
 const SUMMARY: &str =
