@@ -1,6 +1,7 @@
 //! A module for each subject.
 
 mod joining;
+mod memory;
 mod results;
 mod rounds;
 mod running;
