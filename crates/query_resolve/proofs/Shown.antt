@@ -37,13 +37,13 @@ at_first_more {A} {B} test F x xs d =
     ap (λ (m : ℕ). unwrap_or (option_and_then (slice_get (map F (x ∷ xs))) (cond (nat_lt m (length (x ∷ xs))) (Some m) None)) d) (one-add n)
     ∙ ap (λ (b : Bool). unwrap_or (option_and_then (slice_get (map F (x ∷ xs))) (cond b (Some (suc n)) None)) d) (both_more n (length xs))
     ∙ (elim (nat_lt n (length xs)) as (λ (b : Bool). unwrap_or (option_and_then (slice_get (map F (x ∷ xs))) (cond b (Some (suc n)) None)) d
-        ≡ unwrap_or (option_and_then (slice_get (map F xs)) (cond b (Some n) None)) d) [ true ↦ refl | false ↦ refl ])
+    ≡ unwrap_or (option_and_then (slice_get (map F xs)) (cond b (Some n) None)) d) [ true ↦ refl | false ↦ refl ])
 
 pub first_value : {A B : Type 0} (test : A → Bool) (F : A → B) (v d : B) → ((x : A) → test x ≡ true → F x ≡ v) → (xs : List A) → list_any test xs ≡ true → unwrap_or (at_first test F xs) d ≡ v
 first_value test F v d same [] h = absurd cc
 first_value {A} {B} test F v d same (x ∷ xs) h =
     elim (test x) as (λ (t : Bool). test x ≡ t → (t || list_any test xs) ≡ true
-        → unwrap_or (option_and_then (slice_get (map F (x ∷ xs))) (cond (nat_lt (cond (not t) (1 + position_or_len test xs) 0) (length (x ∷ xs))) (Some (cond (not t) (1 + position_or_len test xs) 0)) None)) d ≡ v) [
+    → unwrap_or (option_and_then (slice_get (map F (x ∷ xs))) (cond (nat_lt (cond (not t) (1 + position_or_len test xs) 0) (length (x ∷ xs))) (Some (cond (not t) (1 + position_or_len test xs) 0)) None)) d ≡ v) [
       | true ↦ λ e _. ap (λ (b : Bool). unwrap_or (option_and_then (slice_get (map F (x ∷ xs))) (cond b (Some 0) None)) d) (lt-ltb 0 (length (x ∷ xs)) (omega arith)) ∙ same x e
       | false ↦ λ e k. at_first_more test F x xs d ∙ first_value test F v d same xs k
     ] refl h
@@ -91,12 +91,12 @@ shown_value fields t set key rows f there =
     let all : List PlannedFunction = functions_of fields t in
     let F : PlannedFunction → Summary = λ p. agg (aggregate_function fields p) rows in
     elim (planned_function fields f) as (λ (o : Option PlannedFunction). planned_function fields f ≡ o
-        → unwrap_or (option_and_then (slice_get (map (λ g. agg g rows) (aggregate_functions fields t))) (option_and_then (λ p. position (same_planned p) all) o)) (plain null) ≡ option_map_or F o (plain null)) [
+    → unwrap_or (option_and_then (slice_get (map (λ g. agg g rows) (aggregate_functions fields t))) (option_and_then (λ p. position (same_planned p) all) o)) (plain null) ≡ option_map_or F o (plain null)) [
       | None ↦ λ _. refl
       | Some p ↦ λ e.
           ap (λ (cells : List Summary). unwrap_or (option_and_then (slice_get cells) (position (same_planned p) all)) (plain null)) (map_twice (λ g. agg g rows) (aggregate_function fields) all)
           ∙ first_value (same_planned p) F (F p) (plain null) (λ q h. ap F (sym (planned_are_same p q h))) all
-            (any_agree (same_planned p) (λ y. same_planned y p) (λ y. same_turned p y) all
-            ∙ any_distinct same_planned planned_are_same p (filter_map (planned_function fields) (set_functions t))
-            ∙ planned_there fields f p e (set_functions t) there.0 there.1 there.2)
+          (any_agree (same_planned p) (λ y. same_planned y p) (λ y. same_turned p y) all
+          ∙ any_distinct same_planned planned_are_same p (filter_map (planned_function fields) (set_functions t))
+          ∙ planned_there fields f p e (set_functions t) there.0 there.1 there.2)
     ] refl
