@@ -1,7 +1,7 @@
 # Completes the words of jlreport in bash: its options, and the name of a file for FILE.
 
 _jlreport() {
-    local options=' --columns --query --workers --piece --max-refused --explain --partial --join --help --version '
+    local options=' --columns --query --workers --piece --max-refused --explain --partial --join --progress --help --version '
     local current=${COMP_WORDS[COMP_CWORD]} word awaits='' has_file='' has_end=''
     COMPREPLY=()
 

@@ -2,6 +2,9 @@
 //! ends with the status that `jlreport_engine::serve` answers.
 #![tactic(auto)]
 
+mod progress;
+
+use crate::progress::{ProgressLine, Watched};
 use jlreport_cli::{Settings, WordsFault, settings};
 use jlreport_engine::serve;
 use std::alloc::{AllocError, Global};
@@ -29,12 +32,37 @@ impl Read for Source {
     }
 }
 
-/// What the word for FILE names: standard input where it is `-`, and else the file of this path, unless it cannot be opened.
-fn open(rt: &HostRuntime, word: &str) -> Option<Source> {
-    if word == "-" {
-        return Some(Source::Standard(rt.stdin()));
+impl Source {
+    /// What the word for FILE names: standard input where it is `-`, and else the file of this path, unless it cannot be opened.
+    fn open(rt: &HostRuntime, word: &str) -> Option<Source> {
+        if word == "-" {
+            return Some(Source::Standard(rt.stdin()));
+        }
+        File::open(rt, word).ok().map(Source::File)
     }
-    File::open(rt, word).ok().map(Source::File)
+
+    /// How many bytes there are, where that is known before they are read: those of a file that is no pipe and no device.
+    fn size(&self) -> Option<u64> {
+        match self {
+            Source::File(file) => file
+                .metadata()
+                .ok()
+                .filter(|it| it.is_file())
+                .map(|it| it.len()),
+            Source::Standard(_) => None,
+        }
+    }
+}
+
+/// What the word for FILE names, unless it cannot be opened; with a line on the terminal, where that is asked for.
+fn open<'a>(rt: &'a HostRuntime, word: &str, progress: bool) -> Option<Watched<'a, Source>> {
+    let source = Source::open(rt, word)?;
+    let line = if progress {
+        ProgressLine::new(rt, source.size())
+    } else {
+        None
+    };
+    Some(Watched::new(source, line))
 }
 
 /// Want of memory, in place of settings.
@@ -63,7 +91,8 @@ fn serve_here(
     asked: Result<Settings<'_>, WordsFault>,
 ) -> u8 {
     let (mut out, mut err) = (rt.stdout(), rt.stderr());
-    let mut opener = |word: &str| open(rt, word);
+    let progress = matches!(&asked, Ok(settings) if settings.progress);
+    let mut opener = |word: &str| open(rt, word, progress);
     serve(threads, rt.alloc(), asked, &mut opener, &mut out, &mut err)
 }
 

@@ -85,6 +85,22 @@ words-join : value_of (codes "join") words ≡ Some (codes "false")
 unfolding clap_on_literals
 words-join = refl
 
+words-progress : value_of (codes "progress") words ≡ Some (codes "false")
+unfolding clap_on_literals
+words-progress = refl
+
+-- words that ask to see how far a run is
+abbrev words_for_progress : List Text
+words_for_progress = codes "jlreport" ∷ codes "--progress" ∷ codes "--columns=a" ∷ codes "--query=b" ∷ codes "f" ∷ []
+
+words_for_progress-fault : fault_of command words_for_progress ≡ []
+unfolding clap_on_literals
+words_for_progress-fault = refl
+
+words_for_progress-set : IsSet (codes "progress") words_for_progress
+unfolding clap_on_literals
+words_for_progress-set = refl
+
 -- the file has to be given also there
 explained_nothing-fault : fault_of command (codes "jlreport" ∷ codes "--explain" ∷ codes "--columns=a" ∷ codes "--query=b" ∷ []) ≡ MissingRequiredArgument ∷ []
 unfolding clap_on_literals

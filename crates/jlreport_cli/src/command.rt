@@ -50,14 +50,16 @@ const PARTIAL_HELP: &str =
 /// What help says of the flag that joins parts.
 const JOIN_HELP: &str = "Read parts, one behind the other, in place of lines";
 
+/// What help says of the flag that shows how far a run is.
+const PROGRESS_HELP: &str = "Show on the terminal how far the file is read, while that takes time";
+
 /// What help says of the file.
 const FILE_HELP: &str =
     "The file to read, with one JSON object on each line, or parts; - is standard input";
 
 /// What stands at the end of the help that `-h` shows.
 const SUMMARY: &str =
-    "The report goes to standard output, as CSV in which \\N is NULL; the refused lines go to standard
-error. The status is 0, or 1 where lines were refused; 2 to 6 say what went wrong.
+    "The report goes to standard output (\\N is NULL), refused lines to standard error, with status 1.
 Example:
   jlreport --columns shop:text,cents:int --query 'SELECT shop, SUM(cents) AS cents
     FROM lines GROUP BY shop ORDER BY cents DESC NULLS LAST' examples/events.jsonl";
@@ -154,6 +156,7 @@ fn program_command<'a>(alloc: Global) -> Result<Command<'a>, Error>
         flag(alloc, "explain", EXPLAIN_HELP),
         flag(alloc, "partial", PARTIAL_HELP),
         flag(alloc, "join", JOIN_HELP),
+        flag(alloc, "progress", PROGRESS_HELP),
         required_word(alloc, "file", "FILE", FILE_HELP),
     ];
     let mut command = described_command(alloc);
@@ -222,6 +225,8 @@ pub fn settings<'a>(alloc: Global, words: &'a [&'a str]) -> Result<Settings<'a>,
         ↔ IsSet (codes "partial") (texts words.now)) }
     ensures join { IfOk result (λ s. (s.join ≡ true)
         ↔ IsSet (codes "join") (texts words.now)) }
+    ensures progress { IfOk result (λ s. (s.progress ≡ true)
+        ↔ IsSet (codes "progress") (texts words.now)) }
     ensures taken { IfOk result (λ _. fault_of command (texts words.now) ≡ []) }
     ensures refused { IfErr result (IsRefusalOf (texts words.now)) }
 {
@@ -238,5 +243,6 @@ pub fn settings<'a>(alloc: Global, words: &'a [&'a str]) -> Result<Settings<'a>,
         explain: is_set(&matches, "explain"),
         partial: is_set(&matches, "partial"),
         join: is_set(&matches, "join"),
+        progress: is_set(&matches, "progress"),
     })
 }

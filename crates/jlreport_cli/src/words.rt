@@ -5,8 +5,8 @@ use crate::options::Options;
 /// What a run of the program is asked for. The texts are those of the words, and are not copied.
 ///
 /// Example: of `jlreport --columns q:int --query 'SELECT SUM(q) FROM lines' lines.jsonl`, `columns`
-/// is `q:int`, `query` is `SELECT SUM(q) FROM lines`, `file` is `lines.jsonl`, and `explain`, `partial`
-/// and `join` are `false`.
+/// is `q:int`, `query` is `SELECT SUM(q) FROM lines`, `file` is `lines.jsonl`, and `explain`, `partial`,
+/// `join` and `progress` are `false`.
 #[derive(Clone, Copy, Debug, PartialEq, Eq)]
 pub struct Settings<'a> {
     /// The text of the columns, not read yet: `name:type` parts joined by commas, where it is good.
@@ -23,4 +23,6 @@ pub struct Settings<'a> {
     pub partial: bool,
     /// Whether the file has parts, one behind the other, in place of lines.
     pub join: bool,
+    /// Whether a person is to see how far the file is read.
+    pub progress: bool,
 }

@@ -43,14 +43,14 @@ abbrev pub flag : Text → Rule
 flag name = record (new_rule name) { long = Some name; action = Some SetTrue }
 
 -- `jlreport --columns <SPEC> --query <TEXT> [--workers <N>] [--piece <BYTES>] [--max-refused <N>]
--- [--explain] [--partial] [--join] <FILE>`, with 4 workers and pieces of 1,048,576 bytes where they are not given;
--- `--help` and `--version` ask for a text instead.
+-- [--explain] [--partial] [--join] [--progress] <FILE>`, with 4 workers and pieces of 1,048,576 bytes where they are
+-- not given; `--help` and `--version` ask for a text instead.
 abbrev pub command : App
 command = fold with_rule (record (new_app (codes "jlreport")) { top = record (new_app (codes "jlreport")).top { has_version = true } }) (
     required_option (codes "columns") ∷ required_option (codes "query")
     ∷ number_option (codes "workers") (codes "4" ∷ []) ∷ number_option (codes "piece") (codes "1048576" ∷ [])
     ∷ number_option (codes "max-refused") [] ∷ flag (codes "explain")
-    ∷ flag (codes "partial") ∷ flag (codes "join") ∷ required_word (codes "file") ∷ [])
+    ∷ flag (codes "partial") ∷ flag (codes "join") ∷ flag (codes "progress") ∷ required_word (codes "file") ∷ [])
 
 -- The first value that clap publishes for the argument of this name, for words under the command.
 abbrev pub value_of : Text → List Text → Option Text

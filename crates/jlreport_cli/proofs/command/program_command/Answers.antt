@@ -17,15 +17,16 @@ loop-argument-init c =
     let six = ap₂ with_rule five c.flag.ensures.rule in
     let seven = ap₂ with_rule six c.flag-2.ensures.rule in
     let eight = ap₂ with_rule seven c.flag-3.ensures.rule in
+    let nine = ap₂ with_rule eight c.flag-4.ensures.rule in
     record {
-      whole = ap (fold with_argument (app_of c.described_command-command.result)) are ∙ ap₂ with_rule eight c.required_word.ensures.rule;
+      whole = ap (fold with_argument (app_of c.described_command-command.result)) are ∙ ap₂ with_rule nine c.required_word.ensures.rule;
       local = subst (AllByRecursion IsLocal) (sym are) (
         c.required_option.ensures.local,
         (
           c.required_option-2.ensures.local,
           (
             c.defaulted_option.ensures.local,
-            (c.defaulted_option-2.ensures.local, (c.number_option.ensures.local, (c.flag.ensures.local, (c.flag-2.ensures.local, (c.flag-3.ensures.local, (c.required_word.ensures.local, tt)))))),
+            (c.defaulted_option-2.ensures.local, (c.number_option.ensures.local, (c.flag.ensures.local, (c.flag-2.ensures.local, (c.flag-3.ensures.local, (c.flag-4.ensures.local, (c.required_word.ensures.local, tt))))))),
           ),
         ),
       );

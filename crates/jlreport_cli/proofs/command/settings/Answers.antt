@@ -15,7 +15,7 @@ pub text_of-requires-2 : goal.text_of-requires-2
 text_of-requires-2 c = first_value-required _ c.in_ok-matches.matches (codes "query") 1 c.in_ok-command.ensures.ok c.in_ok-matches.ensures.parsed refl
 
 pub text_of-requires-3 : goal.text_of-requires-3
-text_of-requires-3 c = first_value-required _ c.in_ok-matches.matches (codes "file") 8 c.in_ok-command.ensures.ok c.in_ok-matches.ensures.parsed refl
+text_of-requires-3 c = first_value-required _ c.in_ok-matches.matches (codes "file") 9 c.in_ok-command.ensures.ok c.in_ok-matches.ensures.parsed refl
 
 pub returns-clause-columns : goal.returns-clause-columns
 returns-clause-columns c =
@@ -52,6 +52,10 @@ returns-clause-partial c =
 pub returns-clause-join : goal.returns-clause-join
 returns-clause-join c =
     IsSet-read _ (texts c.args.words.now) _ (codes "join") c.is_set-3.result c.in_ok-command.ensures.ok c.in_ok-matches.ensures.matches c.is_set-3.ensures
+
+pub returns-clause-progress : goal.returns-clause-progress
+returns-clause-progress c =
+    IsSet-read _ (texts c.args.words.now) _ (codes "progress") c.is_set-4.result c.in_ok-command.ensures.ok c.in_ok-matches.ensures.matches c.is_set-4.ensures
 
 pub returns-clause-taken : goal.returns-clause-taken
 returns-clause-taken c = fault_of-taken _ (texts c.args.words.now) c.in_ok-command.ensures.ok c.in_ok-matches.ensures.kinds
