@@ -9,9 +9,9 @@ import os
 import shutil
 import subprocess
 
+from linking import link, link_statically, object_of, program_of
 from trees import SOURCES, TOP, crates, is_program, log_of, out_of, run, stands_on, words_of
 
-TARGET = "x86_64-unknown-linux-gnu"
 # The processors that a program may be compiled for, and the one of these that is not asked for by name.
 CPUS = ("x86-64", "x86-64-v2", "x86-64-v3")
 USUAL_CPU = "x86-64-v2"
@@ -23,10 +23,6 @@ def folder_of(name):
 
 def library_of(name):
     return f"{folder_of(name)}/{name}.rlib"
-
-
-def program_of(name):
-    return f"{out_of(name)}/{name}"
 
 
 def stamp_file_of(name):
@@ -97,7 +93,7 @@ class Statements:
             words += ["-L", f"dependency={it}"]
         if is_program(name):
             words += ["--toolchain", f"{self.kit}/toolchain", "--backend", "llvm", "--cpu", self.cpu]
-            words += ["-o", f"{program_of(name)}.o"]
+            words += ["-o", object_of(name)]
         else:
             words += ["--statements", "-o", library_of(name)]
         return run(words, f"{TOP}/crates/{name}", name)
@@ -105,8 +101,10 @@ class Statements:
     def ended(self, name, status):
         """Puts down that a crate is proved, where its run says so; a program is linked first. Whether all is well."""
         begun = self.begun.pop(name)
-        if status or is_program(name) and not self.link(name):
+        if status or is_program(name) and not link(self.kit, name):
             return False
+        if is_program(name):
+            link_statically(self.kit, name)
         if self.stamp(name) != begun:
             with open(log_of(name), "a", encoding="utf-8") as log:
                 log.write("error: the files of the crate changed while it was proved: run this again\n")
@@ -114,9 +112,3 @@ class Statements:
         with open(stamp_file_of(name), "w", encoding="ascii") as it:
             it.write(begun + sum_of_program(name))
         return True
-
-    def link(self, name):
-        words = [f"{self.kit}/bin/rattle-link", "--target", TARGET, "--toolchain", f"{self.kit}/toolchain", "-o", program_of(name)]
-        words += [f"{program_of(name)}.o", f"{self.kit}/c/libos_c.a", f"{self.kit}/c/liblibc_c.a"]
-        with open(log_of(name), "ab") as log:
-            return subprocess.run(words, stdin=subprocess.DEVNULL, stdout=log, stderr=log).returncode == 0
