@@ -17,7 +17,7 @@ use tables_groups::{Cell, Group};
 use values::{Column, Value};
 
 /// The most columns that GROUPING takes.
-const MAX_COLUMNS: usize = 8;
+const MAX_ARGUMENTS: usize = 8;
 
 /// What a group has where the rows of its grouping set have what they show.
 pub(crate) fn cell_from(source: &Source, group: &Group) -> Result<Cell, AllocError>
@@ -128,7 +128,7 @@ fn grouping_number(columns: &[Column], set: &[usize], names: &[Text]) -> u64
 pub(crate) fn grouping_value(columns: &[Column], set: &[usize], names: &[Text]) -> Value
     ensures { datum_of result ≡ grouping_shown (fields_of columns.now) set.now names.now }
 {
-    if names.len() > MAX_COLUMNS {
+    if names.len() > MAX_ARGUMENTS {
         return Value::Null;
     }
     Value::Int(i128::from(grouping_number(columns, set, names)))

@@ -32,8 +32,8 @@ pub enum PartsFaultKind {
     /// A key, a different value or the number of a refused line is not above the one before.
     #[error("out of order")]
     OutOfOrder,
-    /// There are more refused lines than lines, or one behind the last line; or more records than good lines, or more of them
-    /// counted or added than there are; or so many whole numbers of 64 bits have no such sum; or without GROUP BY there is not
+    /// A number is impossible: more refused lines than lines, or one with a number above theirs; more records than good
+    /// lines, or a count above its group's; a sum that so many numbers of 64 bits cannot have; or, without GROUP BY, not
     /// exactly one group, or with it a group without a record.
     #[error("out of range")]
     OutOfRange,
