@@ -1,5 +1,5 @@
 -- The values of a set as the list that a sort of them gives.
-use Rattle.std.proofs.Common.{◌≡◌, List, map, sym, ap, subst, ◌∙◌, IsPermutation, IsSortedBy}
+use Rattle.std.proofs.Common.{◌≡◌, List, [], ◌∷◌, map, sym, ap, subst, ◌∙◌, IsPermutation, IsSortedBy}
 use Rattle.std.proofs.lemmas.List.{map-id}
 use Rattle.std.proofs.lemmas.List.Elements.{All-from_recursion, recursion_from_All}
 use Rattle.std.proofs.lemmas.List.Sorted.{All-permutation, list_any-IsPermutation}
@@ -47,3 +47,13 @@ values-listed vs ks zs d all are p up =
     subst (λ (xs : List Datum). IsStrictlySortedBy value_order xs) (map-id fs)
     (ascend-beside value_order itself code_of IsCodable values-told zs fs m.codes codable (subst (λ (xs : List Datum). IsDistinct same_value xs) (sym (map-id fs)) apart) up) in
     map-map datum_of (λ (k : Keyed Value). k.thing) zs ∙ m.things ∙ map-id fs ∙ sym (ascending-list fs sorted) ∙ ap ascending_values (same-moved ds fs m.permutation)
+
+-- no value is no list
+pub none-listed : data_of [] ≡ ascending_values (values_in [])
+unfolding IsStrictlySortedBy
+none-listed = sym (ascending-list [] tt)
+
+-- and one value is that list
+pub one-listed : (v : Value) → data_of (v ∷ []) ≡ ascending_values (values_in (v ∷ []))
+unfolding IsStrictlySortedBy
+one-listed v = sym (ascending-list (datum_of v ∷ []) (tt, tt))

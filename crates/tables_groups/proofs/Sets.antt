@@ -147,3 +147,30 @@ data-distinct (w ∷ vs) d = (others-data w vs d.0, data-distinct vs d.1)
 -- how many values a set of the code has
 pub len-shown : (vs : List Value) → IsDistinct value_eq vs → set.len (values_in vs) ≡ length vs
 len-shown vs d = len-all (data_of vs) (data-distinct vs d) ∙ length-map vs datum_of
+
+-- no value is none, and one value is one
+pub len-none : 0 ≡ set.len (values_in [])
+len-none = sym (set.len-empty value_order)
+
+pub len-one : (v : Value) → set.len (values_in (v ∷ [])) ≡ 1
+unfolding IsDistinct
+len-one v = len-shown (v ∷ []) (tt, tt)
+
+-- whether a list of the code has a value
+pub found-shown : (k : Value) (vs : List Value) → list_any (value_eq k) vs ≡ set.contains (values_in vs) (datum_of k)
+found-shown k vs = found-data k vs ∙ sym (in_list (data_of vs) (datum_of k))
+
+-- and a list of none or of one
+pub found-none : (k : Value) → false ≡ set.contains (values_in []) (datum_of k)
+found-none k = found-shown k []
+
+pub found-one : (k v : Value) → value_eq k v ≡ set.contains (values_in (v ∷ [])) (datum_of k)
+found-one k v = sym (or-false (value_eq k v)) ∙ found-shown k (v ∷ [])
+
+-- a value that is there already adds nothing
+pub held-insert : (vs : List Value) (k : Value) → set.contains (values_in vs) (datum_of k) ≡ true → values_in vs ≡ set.insert (values_in vs) (datum_of k)
+held-insert vs k h = insert-there (data_of vs) (datum_of k) (sym (in_list (data_of vs) (datum_of k)) ∙ h)
+
+-- nor does one that is equal to the only one
+pub equal-insert : (v k : Value) → value_eq k v ≡ true → values_in (v ∷ []) ≡ set.insert (values_in (v ∷ [])) (datum_of k)
+equal-insert v k h = held-insert (v ∷ []) k (sym (found-one k v) ∙ h)

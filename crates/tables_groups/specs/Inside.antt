@@ -7,6 +7,8 @@
 -- says by `AreGroupsOfTable` and `HaveTypesOfTable` what a finished table gives. What a result over an input is, the calls above it say in the words of the other
 -- files alone. Of `Keys`, `Shards`, `Pairs`, `Walks`, `Summaries` and `GroupsOfShards` private calls alone speak.
 pub mod Values
+pub mod Hashing
+pub mod ValueSets
 pub mod Coding
 pub mod Accumulator
 pub mod Group

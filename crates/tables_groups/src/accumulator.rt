@@ -9,6 +9,7 @@ ghost use Rattle.semantics.specs.Groups.{value_at};
 use crate::cell::Cell;
 use crate::distinct_values::DistinctValues;
 use crate::extreme::{is_greater, is_less};
+use crate::memory::Memory;
 use crate::total::Total;
 use group_states::State;
 use query_resolve::{ColumnFunction, FilteredFunction};
@@ -34,6 +35,9 @@ pub(crate) enum Accumulator {
     Average(Total),
 }
 
+// Each group keeps one for each set function, so that none may be larger than MIN and MAX need it.
+const _: () = prove!(size_of::<Accumulator>() <= 48);
+
 impl Accumulator {
     ghost use Rattle.std.specs.Prelude.{[], IfOk, OnOk, OnErr};
     ghost use Rattle.tables_groups.specs.Inside.Accumulator.{is_marked, no_state, state_in, state_counted, state_over, with_count, with_member, with_record, with_value, joint_state, summary, HasRoom, IsUnbounded};
@@ -43,51 +47,48 @@ impl Accumulator {
     ghost use Rattle.tables_groups.specs.Cells.{summary_of};
 
     /// What is kept of no record.
-    pub(crate) fn new(alloc: Global, function: FilteredFunction) -> Result<Accumulator, AllocError>
-        ensures { IfOk result (λ accumulator.
-            state_in accumulator ≡ no_state function.filter function.function) }
+    pub(crate) fn new(function: FilteredFunction) -> Accumulator
+        ensures { state_in result ≡ no_state function.filter function.function }
     {
         match function.filter {
-            None => Accumulator::without_filter(alloc, function.function),
-            Some(_) => Accumulator::with_filter(alloc, function.function),
+            None => Accumulator::without_filter(function.function),
+            Some(_) => Accumulator::with_filter(function.function),
         }
     }
 
     /// What is kept of no record for a set function with FILTER.
-    fn with_filter(alloc: Global, function: ColumnFunction) -> Result<Accumulator, AllocError>
-        ensures { IfOk result (λ accumulator. state_in accumulator ≡ state_counted function []) }
+    fn with_filter(function: ColumnFunction) -> Accumulator
+        ensures { state_in result ≡ state_counted function [] }
     {
         match function {
-            ColumnFunction::CountRows => Ok(Accumulator::Count(0)),
+            ColumnFunction::CountRows => Accumulator::Count(0),
             ColumnFunction::Count(_)
             | ColumnFunction::CountDistinct(_)
             | ColumnFunction::Sum(_)
             | ColumnFunction::Min(_)
             | ColumnFunction::Max(_)
-            | ColumnFunction::Avg(_) => Accumulator::without_filter(alloc, function),
+            | ColumnFunction::Avg(_) => Accumulator::without_filter(function),
         }
     }
 
     /// What is kept of no record for a set function without FILTER.
-    fn without_filter(alloc: Global, function: ColumnFunction) -> Result<Accumulator, AllocError>
-        ensures { IfOk result (λ accumulator. state_in accumulator ≡ state_over function []) }
+    fn without_filter(function: ColumnFunction) -> Accumulator
+        ensures { state_in result ≡ state_over function [] }
     {
         match function {
-            ColumnFunction::CountRows => Ok(Accumulator::Rows),
-            ColumnFunction::Count(_) => Ok(Accumulator::Count(0)),
-            ColumnFunction::CountDistinct(_) => {
-                Ok(Accumulator::Distinct(DistinctValues::new(alloc)?))
-            }
-            ColumnFunction::Sum(_) => Ok(Accumulator::Sum(Total::NONE)),
-            ColumnFunction::Min(_) => Ok(Accumulator::Min(Value::Null)),
-            ColumnFunction::Max(_) => Ok(Accumulator::Max(Value::Null)),
-            ColumnFunction::Avg(_) => Ok(Accumulator::Average(Total::NONE)),
+            ColumnFunction::CountRows => Accumulator::Rows,
+            ColumnFunction::Count(_) => Accumulator::Count(0),
+            ColumnFunction::CountDistinct(_) => Accumulator::Distinct(DistinctValues::new()),
+            ColumnFunction::Sum(_) => Accumulator::Sum(Total::NONE),
+            ColumnFunction::Min(_) => Accumulator::Min(Value::Null),
+            ColumnFunction::Max(_) => Accumulator::Max(Value::Null),
+            ColumnFunction::Avg(_) => Accumulator::Average(Total::NONE),
         }
     }
 
     /// What a set function keeps of a state. A state that it does not have is kept as it is.
     pub(crate) fn of_state(
-        alloc: Global,
+        memory: Memory,
         function: ColumnFunction,
         state: State,
     ) -> Result<Accumulator, AllocError>
@@ -100,7 +101,7 @@ impl Accumulator {
             State::Sum(sum, count) => Ok(Accumulator::of_sum(function, Total { sum, count })),
             State::Extreme(value) => Ok(Accumulator::of_extreme(function, value)),
             State::Distinct(values) => Ok(Accumulator::Distinct(DistinctValues::of_values(
-                alloc, values,
+                memory, values,
             )?)),
         }
     }
@@ -139,6 +140,7 @@ impl Accumulator {
     /// is of no use.
     pub(crate) fn add(
         &mut self,
+        memory: Memory,
         function: FilteredFunction,
         marks: &[bool],
         row: &[Value],
@@ -153,18 +155,23 @@ impl Accumulator {
         if !is_marked(marks, function.filter) {
             return Ok(());
         }
-        self.add_record(function.function, row)
+        self.add_record(memory, function.function, row)
     }
 
     /// Takes one more record.
-    fn add_record(&mut self, function: ColumnFunction, row: &[Value]) -> Result<(), AllocError>
+    fn add_record(
+        &mut self,
+        memory: Memory,
+        function: ColumnFunction,
+        row: &[Value],
+    ) -> Result<(), AllocError>
         requires { HasRoom (with_record function (state_in self.old) (data_of row.now)) }
         ensures added { OnOk result (state_in self.new
             ≡ with_record function (state_in self.old) (data_of row.now)) }
         ensures unbounded { OnErr result (IsUnbounded (state_in self.new)) }
     {
         match argument_place(function) {
-            Some(place) => self.add_value_at(row, place),
+            Some(place) => self.add_value_at(memory, row, place),
             None => {
                 self.add_count();
                 Ok(())
@@ -189,20 +196,25 @@ impl Accumulator {
     }
 
     /// Takes the value of a record in the column at a place.
-    fn add_value_at(&mut self, row: &[Value], place: usize) -> Result<(), AllocError>
+    fn add_value_at(
+        &mut self,
+        memory: Memory,
+        row: &[Value],
+        place: usize,
+    ) -> Result<(), AllocError>
         requires { HasRoom (with_value (state_in self.old) (value_at place (data_of row.now))) }
         ensures added { OnOk result (state_in self.new
             ≡ with_value (state_in self.old) (value_at place (data_of row.now))) }
         ensures unbounded { OnErr result (IsUnbounded (state_in self.new)) }
     {
         match value_at(row, place) {
-            Some(value) => self.add_value(value),
+            Some(value) => self.add_value(memory, value),
             None => Ok(()),
         }
     }
 
     /// Takes one more value.
-    fn add_value(&mut self, value: &Value) -> Result<(), AllocError>
+    fn add_value(&mut self, memory: Memory, value: &Value) -> Result<(), AllocError>
         requires { HasRoom (with_value (state_in self.old) (datum_of value.now)) }
         ensures added { OnOk result (state_in self.new
             ≡ with_value (state_in self.old) (datum_of value.now)) }
@@ -215,7 +227,7 @@ impl Accumulator {
                     *count += 1;
                 }
             }
-            Accumulator::Distinct(values) => values.add(value)?,
+            Accumulator::Distinct(values) => values.add(memory, value)?,
             Accumulator::Sum(total) => total.add(value),
             Accumulator::Min(least) => {
                 if is_less(value, least) {
@@ -233,7 +245,7 @@ impl Accumulator {
     }
 
     /// Takes what is kept of other records for the same function. After an error what is kept is of no use.
-    pub(crate) fn absorb(&mut self, other: Accumulator) -> Result<(), AllocError>
+    pub(crate) fn absorb(&mut self, memory: Memory, other: Accumulator) -> Result<(), AllocError>
         requires { HasRoom (joint_state (state_in self.old) (state_in other)) }
         ensures joined { OnOk result (state_in self.new
             ≡ joint_state (state_in self.old) (state_in other)) }
@@ -241,7 +253,9 @@ impl Accumulator {
     {
         match (self, other) {
             (Accumulator::Count(count), Accumulator::Count(more)) => *count += more,
-            (Accumulator::Distinct(values), Accumulator::Distinct(more)) => values.absorb(more)?,
+            (Accumulator::Distinct(values), Accumulator::Distinct(more)) => {
+                values.absorb(memory, more)?;
+            }
             (Accumulator::Sum(total), Accumulator::Sum(more)) => total.absorb(more),
             (Accumulator::Min(least), Accumulator::Min(value)) => {
                 if is_less(&value, least) {
@@ -269,7 +283,11 @@ impl Accumulator {
     }
 
     /// Takes copies of what is kept of other records for the same function. After an error what is kept is of no use.
-    pub(crate) fn absorb_copies(&mut self, other: &Accumulator) -> Result<(), AllocError>
+    pub(crate) fn absorb_copies(
+        &mut self,
+        memory: Memory,
+        other: &Accumulator,
+    ) -> Result<(), AllocError>
         requires { HasRoom (joint_state (state_in self.old) (state_in other.now)) }
         ensures joined { OnOk result (state_in self.new
             ≡ joint_state (state_in self.old) (state_in other.now)) }
@@ -278,7 +296,7 @@ impl Accumulator {
         match (self, other) {
             (Accumulator::Count(count), Accumulator::Count(more)) => *count += *more,
             (Accumulator::Distinct(values), Accumulator::Distinct(more)) => {
-                values.absorb_copies(more)?;
+                values.absorb_copies(memory, more)?;
             }
             (Accumulator::Sum(total), Accumulator::Sum(more)) => total.absorb(*more),
             (Accumulator::Min(least), Accumulator::Min(more)) => {

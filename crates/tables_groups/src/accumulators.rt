@@ -7,6 +7,7 @@ ghost use Rattle.group_states.specs.States.{states_of};
 
 use crate::accumulator::Accumulator;
 use crate::cell::Cell;
+use crate::memory::Memory;
 use group_states::State;
 use query_resolve::FilteredFunction;
 use std::alloc::{AllocError, Global};
@@ -53,14 +54,14 @@ impl Accumulators {
     {
         let mut parts = Vec::with_capacity(alloc, functions.len())?;
         for function in functions {
-            parts.push(Accumulator::new(alloc, *function)?)?;
+            parts.push(Accumulator::new(*function))?;
         }
         Ok(Accumulators { lines: 0, parts })
     }
 
     /// What is kept of a group of so many members, by a state for each function.
     pub(crate) fn of_states(
-        alloc: Global,
+        memory: Memory,
         functions: &[FilteredFunction],
         members: u64,
         states: Vec<State>,
@@ -70,9 +71,9 @@ impl Accumulators {
         ensures parts { IfOk result (λ group.
             group.parts ≡ kept_states functions.now (states_of states.items)) }
     {
-        let mut parts = Vec::with_capacity(alloc, functions.len())?;
+        let mut parts = Vec::with_capacity(memory.alloc, functions.len())?;
         for (function, state) in functions.iter().zip(states) {
-            parts.push(Accumulator::of_state(alloc, function.function, state)?)?;
+            parts.push(Accumulator::of_state(memory, function.function, state)?)?;
         }
         Ok(Accumulators {
             lines: members,
@@ -84,6 +85,7 @@ impl Accumulators {
     /// of no use.
     pub(crate) fn add(
         &mut self,
+        memory: Memory,
         functions: &[FilteredFunction],
         marks: &[bool],
         row: &[Value],
@@ -96,13 +98,13 @@ impl Accumulators {
     {
         self.lines += 1;
         for (place, function) in functions.iter().enumerate() {
-            self.parts[place].add(*function, marks, row)?;
+            self.parts[place].add(memory, *function, marks, row)?;
         }
         Ok(())
     }
 
     /// Takes what is kept of other members. After an error the group is of no use.
-    pub(crate) fn absorb(&mut self, other: Accumulators) -> Result<(), AllocError>
+    pub(crate) fn absorb(&mut self, memory: Memory, other: Accumulators) -> Result<(), AllocError>
         requires room { self.old.lines + other.lines < 2 ^ 63 }
         requires one_each { length other.parts ≡ length self.old.parts }
         ensures { OnOk result (self.new ≡ joint_group self.old other) }
@@ -110,20 +112,24 @@ impl Accumulators {
         let Accumulators { lines, parts } = other;
         self.lines += lines;
         for (place, part) in parts.into_iter().enumerate() {
-            self.parts[place].absorb(part)?;
+            self.parts[place].absorb(memory, part)?;
         }
         Ok(())
     }
 
     /// Takes copies of what is kept of other members. After an error the group is of no use.
-    pub(crate) fn absorb_copies(&mut self, other: &Accumulators) -> Result<(), AllocError>
+    pub(crate) fn absorb_copies(
+        &mut self,
+        memory: Memory,
+        other: &Accumulators,
+    ) -> Result<(), AllocError>
         requires room { self.old.lines + other.now.lines < 2 ^ 63 }
         requires one_each { length other.now.parts ≡ length self.old.parts }
         ensures { OnOk result (self.new ≡ joint_group self.old other.now) }
     {
         self.lines += other.lines;
         for (place, part) in other.parts.iter().enumerate() {
-            self.parts[place].absorb_copies(part)?;
+            self.parts[place].absorb_copies(memory, part)?;
         }
         Ok(())
     }

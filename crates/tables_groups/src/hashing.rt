@@ -1,22 +1,51 @@
 //! How keys and values are hashed.
+ghost use Rattle.std.specs.Prelude.{IfOk};
+
+use std::collections::hash_map::RandomState;
 use std::hash::{BuildHasher, DefaultHasher};
+use std::io;
+use std::random::RandomSource;
 
-/// Makes the hasher of the groups' keys and of the values that `COUNT(DISTINCT x)` counts: SipHash-1-3 with the keys 0, as
-/// `DefaultHasher::new()` is. The seed is fixed, but no bytes make this hash forget those before them.
-///
-/// It is a type of its own since the first state of `BuildHasherDefault` is read from the map, where the compiler does not
-/// know it.
+/// The seed by which a table hashes its groups' keys and the values that `COUNT(DISTINCT x)` counts: the two keys of
+/// SipHash-1-3, of 64 bits each. What a table takes and gives does not depend on it; the time that it takes may.
 #[derive(Clone, Copy)]
-pub(crate) struct FixedState;
+pub enum HashSeed {
+    /// The keys 0, as `DefaultHasher::new()` has them. Whoever picks the keys of the groups may pick them so that many have
+    /// one hash, and the table is slow then.
+    Fixed,
+    /// Keys that are drawn by chance.
+    Random(RandomState),
+}
 
-impl BuildHasher for FixedState {
-    ghost use Rattle.std.specs.Hash.DefaultHasher.{initial};
+impl HashSeed {
+    ghost use Rattle.tables_groups.specs.Inside.Hashing.{IsDrawn};
+
+    /// A seed of 128 random bits of the system. It is drawn once, for all tables of a run.
+    ///
+    /// Example: `HashSeed::draw(&rt)?` answers a `HashSeed::Random`, of other keys in each run.
+    ///
+    /// # Errors
+    ///
+    /// The error of the system where it gives no random bytes.
+    pub fn draw<R: RandomSource>(rt: &R) -> io::Result<HashSeed>
+        ensures drawn { IfOk result (λ seed. IsDrawn seed) }
+    {
+        Ok(HashSeed::Random(RandomState::new(rt)?))
+    }
+}
+
+impl BuildHasher for HashSeed {
+    ghost use Rattle.tables_groups.specs.Inside.Hashing.{initial_hasher};
 
     type Hasher = DefaultHasher;
 
-    ghost build_hasher = { λ _. initial };
+    ghost build_hasher = { initial_hasher };
 
+    // For the fixed seed the compiler knows the hasher's first state, which `BuildHasherDefault` would read from the map.
     fn build_hasher(&self) -> DefaultHasher {
-        DefaultHasher::new()
+        match self {
+            HashSeed::Fixed => DefaultHasher::new(),
+            HashSeed::Random(state) => state.build_hasher(),
+        }
     }
 }

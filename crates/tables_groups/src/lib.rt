@@ -17,6 +17,7 @@ mod hashing;
 mod key;
 mod keyed;
 mod laws;
+mod memory;
 mod packed_key;
 mod pairs;
 mod part;
@@ -25,10 +26,12 @@ mod plain_entries;
 mod shard;
 mod table;
 mod total;
+mod value_set;
 mod walk;
 
 pub use cell::Cell;
 pub use group::Group;
+pub use hashing::HashSeed;
 pub use laws::{
     counted_law, entries_law, members_law, order_law, records_law, roll_law, typed_law,
 };

@@ -4,6 +4,7 @@ ghost use Rattle.tables_groups.specs.Inside.Shards.{AreJoined, CanJoinEach};
 ghost use Rattle.tables_groups.specs.Inside.Pairs.{CanJoinPair, HasJoined};
 ghost use Rattle.tables_groups.specs.declared.pairs.Pair.{Pair};
 
+use crate::memory::Memory;
 use crate::shard::Shard;
 use std::alloc::{AllocError, Global};
 use std::marker::Sync;
@@ -21,12 +22,12 @@ struct Pair {
 
 impl Pair {
     /// Puts the groups of the other shard to the shard.
-    fn join(&mut self, alloc: Global)
+    fn join(&mut self, memory: Memory)
         requires { CanJoinPair self.old }
         ensures { HasJoined self.old self.new }
     {
-        let other = mem::replace(&mut self.other, Shard::new(alloc));
-        self.is_joined = self.shard.absorb(other).is_ok();
+        let other = mem::replace(&mut self.other, Shard::new(memory));
+        self.is_joined = self.shard.absorb(memory, other).is_ok();
     }
 }
 
@@ -34,7 +35,7 @@ impl Pair {
 /// put to it.
 pub(crate) fn join_shards_among<H: Threads + Sync>(
     rt: &H,
-    alloc: Global,
+    memory: Memory,
     hands: usize,
     shards: Vec<Shard>,
     others: Vec<Shard>,
@@ -45,9 +46,9 @@ pub(crate) fn join_shards_among<H: Threads + Sync>(
     ensures count { IfOk result (λ joined. vec_len joined ≡ vec_len shards) }
     ensures joined { IfOk result (λ joined. AreJoined shards.items others.items joined.items) }
 {
-    let mut pairs = pairs_of(alloc, shards, others)?;
-    join_pairs(rt, alloc, hands, pairs.as_mut_slice());
-    shards_of(alloc, pairs)
+    let mut pairs = pairs_of(memory.alloc, shards, others)?;
+    join_pairs(rt, memory, hands, pairs.as_mut_slice());
+    shards_of(memory.alloc, pairs)
 }
 
 /// The shards of two lists, in pairs.
@@ -68,7 +69,7 @@ fn pairs_of(alloc: Global, shards: Vec<Shard>, others: Vec<Shard>) -> Result<Vec
 }
 
 /// Puts the shards of each pair together, by as many threads as there are hands.
-fn join_pairs<H: Threads + Sync>(rt: &H, alloc: Global, hands: usize, pairs: &mut [Pair])
+fn join_pairs<H: Threads + Sync>(rt: &H, memory: Memory, hands: usize, pairs: &mut [Pair])
     requires hands { 0 < hands }
     requires each { All CanJoinPair pairs.old }
     ensures { (i : ℕ) (d : Pair) → i < length pairs.old
@@ -81,7 +82,7 @@ fn join_pairs<H: Threads + Sync>(rt: &H, alloc: Global, hands: usize, pairs: &mu
         &|_place: usize, pair: &mut Pair|
             requires { CanJoinPair pair.now }
             ensures { HasJoined pair.entry.now pair.exit.now }
-        { pair.join(alloc) },
+        { pair.join(memory) },
     );
 }
 

@@ -3,6 +3,7 @@ ghost use Rattle.std.specs.Prelude.{◌≡◌, Some, OnOk};
 ghost use Rattle.tables_groups.specs.Inside.Table.{IsTaken, group_with_part};
 
 use crate::accumulators::Accumulators;
+use crate::memory::Memory;
 use query_resolve::FilteredFunction;
 use std::alloc::AllocError;
 use values::Value;
@@ -20,6 +21,7 @@ impl Part<'_> {
     /// Puts it to a group. After an error the group is of no use.
     pub(crate) fn put_to(
         self,
+        memory: Memory,
         group: &mut Accumulators,
         functions: &[FilteredFunction],
     ) -> Result<(), AllocError>
@@ -28,8 +30,8 @@ impl Part<'_> {
             ≡ group_with_part functions.now (Some group.old) self.entry) }
     {
         match self {
-            Part::Record(row, marks) => group.add(functions, marks, row),
-            Part::Copies(members) => group.absorb_copies(members),
+            Part::Record(row, marks) => group.add(memory, functions, marks, row),
+            Part::Copies(members) => group.absorb_copies(memory, members),
         }
     }
 }

@@ -7,11 +7,12 @@ ghost use Rattle.std.specs.Map.{keys_of};
 ghost use Rattle.tables_groups.specs.Inside.Keys.{key_eq};
 
 use crate::accumulators::Accumulators;
-use crate::hashing::FixedState;
+use crate::hashing::HashSeed;
+use crate::memory::Memory;
 use crate::packed_key::PackedKey;
 use crate::part::Part;
 use query_resolve::FilteredFunction;
-use std::alloc::{AllocError, Global};
+use std::alloc::AllocError;
 use std::collections::HashMap;
 
 /// The most groups of a shard. No memory has room for as many, so that their number is always one of 64 bits.
@@ -20,7 +21,7 @@ const MOST: usize = 576_460_752_303_423_488;
 /// Some groups of a table, each by its key.
 #[derive(Drop)]
 pub(crate) struct Shard {
-    pub(crate) groups: HashMap<PackedKey, Accumulators, FixedState>,
+    pub(crate) groups: HashMap<PackedKey, Accumulators, HashSeed>,
     ghost few: { hash_map_len groups ≤ 2 ^ 59 },
     ghost distinct: { IsDistinct key_eq (keys_of groups.entries) } by { Prim.hlevel props },
 }
@@ -34,11 +35,11 @@ impl Shard {
     ghost use Rattle.tables_groups.specs.Inside.Table.{CanJoin, IsFitting, IsJoined, IsPut, IsTaken, IsWithPart, TakesEach, group_with_entries};
 
     /// The shard that has no group.
-    pub(crate) fn new(alloc: Global) -> Shard
+    pub(crate) fn new(memory: Memory) -> Shard
         ensures { entries_in result ≡ [] }
     {
         Shard {
-            groups: HashMap::with_hasher(alloc, FixedState),
+            groups: HashMap::with_hasher(memory.alloc, memory.seed),
         }
     }
 
@@ -54,7 +55,7 @@ impl Shard {
     /// after an error.
     pub(crate) fn put(
         &mut self,
-        alloc: Global,
+        memory: Memory,
         key: &PackedKey,
         functions: &[FilteredFunction],
         part: Part<'_>,
@@ -67,21 +68,26 @@ impl Shard {
             → fin.get (contents_in self.new) k ≡ fin.get (contents_in self.old) k }
     {
         if let Some(group) = self.groups.get_mut(key) {
-            return part.put_to(group, functions);
+            return part.put_to(memory, group, functions);
         }
         if self.groups.len() >= MOST {
             return Err(AllocError);
         }
-        let mut group = Accumulators::new(alloc, functions)?;
-        part.put_to(&mut group, functions)?;
-        let key = key.copy(alloc)?;
+        let mut group = Accumulators::new(memory.alloc, functions)?;
+        part.put_to(memory, &mut group, functions)?;
+        let key = key.copy(memory.alloc)?;
         self.groups.insert(key, group)?;
         Ok(())
     }
 
     /// Moves one more part to the group of a key. At each other key there is afterwards what was there, also after an
     /// error.
-    pub(crate) fn put_group(&mut self, key: PackedKey, part: Accumulators) -> Result<(), AllocError>
+    pub(crate) fn put_group(
+        &mut self,
+        memory: Memory,
+        key: PackedKey,
+        part: Accumulators,
+    ) -> Result<(), AllocError>
         requires { IsFitting part (fin.get (contents_in self.old) (key_in key)) }
         ensures put { OnOk result ((k : Key)
             → IsPut (contents_in self.old) (contents_in self.new) (key_in key) part k) }
@@ -89,7 +95,7 @@ impl Shard {
             → fin.get (contents_in self.new) k ≡ fin.get (contents_in self.old) k }
     {
         if let Some(group) = self.groups.get_mut(&key) {
-            return group.absorb(part);
+            return group.absorb(memory, part);
         }
         if self.groups.len() >= MOST {
             return Err(AllocError);
@@ -99,25 +105,29 @@ impl Shard {
     }
 
     /// Puts the groups of another shard to these.
-    pub(crate) fn absorb(&mut self, other: Shard) -> Result<(), AllocError>
+    pub(crate) fn absorb(&mut self, memory: Memory, other: Shard) -> Result<(), AllocError>
         requires { CanJoin (contents_in self.old) (contents_in other) }
         ensures { OnOk result ((k : Key)
             → IsJoined (contents_in self.old) (contents_in other) (contents_in self.new) k) }
     {
         let Shard { groups } = other;
         for (key, part) in groups {
-            self.put_group(key, part)?;
+            self.put_group(memory, key, part)?;
         }
         Ok(())
     }
 
     /// Puts copies of what is kept of all groups to a group, whatever their keys. After an error the group is of no use.
-    pub(crate) fn put_copies_to(&self, group: &mut Accumulators) -> Result<(), AllocError>
+    pub(crate) fn put_copies_to(
+        &self,
+        memory: Memory,
+        group: &mut Accumulators,
+    ) -> Result<(), AllocError>
         requires { TakesEach group.old (entries_in self.now) }
         ensures { OnOk result (group.new ≡ group_with_entries group.old (entries_in self.now)) }
     {
         for (_key, part) in &self.groups {
-            group.absorb_copies(part)?;
+            group.absorb_copies(memory, part)?;
         }
         Ok(())
     }

@@ -6,7 +6,9 @@ ghost use Rattle.tables_groups.specs.Inside.Shards.{AreApart, AreJoined, CanJoin
 use crate::accumulators::Accumulators;
 use crate::finishing::groups_among;
 use crate::group::Group;
+use crate::hashing::HashSeed;
 use crate::key::indices_in;
+use crate::memory::Memory;
 use crate::packed_key::PackedKey;
 use crate::pairs::join_shards_among;
 use crate::part::Part;
@@ -34,7 +36,7 @@ const PARALLEL_MIN_GROUPS: usize = 4_096;
 /// Example: the table that has taken the records `'x'`, `'y'` and `'x'`, grouped by their one column with `COUNT(*)`,
 /// has two groups: that of `'x'` with 2 members, and that of `'y'` with 1.
 pub struct Table {
-    alloc: Global,
+    memory: Memory,
     /// The groups, each in the shard of its key's place. Either there are several shards, so that tables can be put
     /// together shard by shard, by several threads; or there is one, in which the groups lie in the order in which they
     /// came.
@@ -52,7 +54,7 @@ pub struct Table {
 impl Drop for Table {
     fn drop(self) {
         let Table {
-            alloc: _,
+            memory: _,
             shards,
             scratch,
         } = self;
@@ -90,64 +92,67 @@ impl Table {
     /// The table of no records under a grouping set, for these set functions, whatever their filters keep. The set has
     /// the places of its columns, from 0. The empty set has its one group from the start, with the empty key.
     ///
-    /// Example: `Table::new(alloc, &[], functions)` answers a table whose `len()` is 1; with `&[0]` it is 0.
+    /// Example: `Table::new(alloc, seed, &[], functions)` answers a table whose `len()` is 1; with `&[0]` it is 0.
     ///
     /// # Errors
     ///
     /// `AllocError` where there is no memory for it.
     pub fn new(
         alloc: Global,
+        seed: HashSeed,
         set: &[usize],
         functions: &[FilteredFunction],
     ) -> Result<Table, AllocError>
         ensures empty { IfOk result (IsOfNone set.now functions.now) }
     {
-        Table::for_hands(alloc, 1, set, functions)
+        Table::for_hands(alloc, seed, 1, set, functions)
     }
 
     /// The table of no records that `new` gives, kept in such a way that as many hands put it to another one soonest
     /// (`absorb_among`), where that one is kept so too. What is taken and given does not depend on the hands.
     ///
-    /// Example: `Table::for_hands(alloc, 4, &[], functions)` answers a table whose `len()` is 1; with `&[0]` it is 0.
+    /// Example: `Table::for_hands(alloc, seed, 4, &[], functions)` answers a table whose `len()` is 1; with `&[0]` it is 0.
     ///
     /// # Errors
     ///
     /// `AllocError` where there is no memory for it.
     pub fn for_hands(
         alloc: Global,
+        seed: HashSeed,
         hands: usize,
         set: &[usize],
         functions: &[FilteredFunction],
     ) -> Result<Table, AllocError>
         ensures empty { IfOk result (IsOfNone set.now functions.now) }
     {
+        let memory = Memory { alloc, seed };
         let count = hands.clamp(1, SHARDS);
         if set.is_empty() {
-            return Table::with_empty_key(alloc, count, functions);
+            return Table::with_empty_key(memory, count, functions);
         }
-        Table::without_groups(alloc, count)
+        Table::without_groups(memory, count)
     }
 
     /// The table of so many shards that has no group.
-    fn without_groups(alloc: Global, count: usize) -> Result<Table, AllocError>
+    fn without_groups(memory: Memory, count: usize) -> Result<Table, AllocError>
         requires some { 0 < count }
         requires few { count ≤ 4 }
         ensures { IfOk result (λ table. table ≡ fin.empty) }
     {
-        let mut shards = Vec::with_capacity(alloc, count)?;
+        let mut shards = Vec::with_capacity(memory.alloc, count)?;
         for _ in 0..count {
-            shards.push(Shard::new(alloc))?;
+            shards.push(Shard::new(memory))?;
         }
         Ok(Table {
-            alloc,
+            memory,
             shards,
-            scratch: PackedKey::empty(alloc),
+            scratch: PackedKey::empty(memory.alloc),
         })
     }
 
     /// The table of so many shards of no records under the empty set, whose one key is there from the start.
     fn with_empty_key(
-        alloc: Global,
+        memory: Memory,
         count: usize,
         functions: &[FilteredFunction],
     ) -> Result<Table, AllocError>
@@ -156,23 +161,23 @@ impl Table {
         ensures { IfOk result (λ table. (k : Key)
             → IsPut fin.empty table [] (no_group functions.now) k) }
     {
-        let mut table = Table::without_groups(alloc, count)?;
-        let group = Accumulators::new(alloc, functions)?;
-        table.put_to_group(PackedKey::empty(alloc), group)?;
+        let mut table = Table::without_groups(memory, count)?;
+        let group = Accumulators::new(memory.alloc, functions)?;
+        table.put_to_group(PackedKey::empty(memory.alloc), group)?;
         Ok(table)
     }
 
     /// The table without any group, kept as `for_hands` does. Groups may be put into it (`put_entry`).
     ///
-    /// Example: `Table::for_entries(alloc, 4)` answers a table whose `len()` is 0.
+    /// Example: `Table::for_entries(alloc, seed, 4)` answers a table whose `len()` is 0.
     ///
     /// # Errors
     ///
     /// `AllocError` where there is no memory for it.
-    pub fn for_entries(alloc: Global, hands: usize) -> Result<Table, AllocError>
+    pub fn for_entries(alloc: Global, seed: HashSeed, hands: usize) -> Result<Table, AllocError>
         ensures { IfOk result (λ table. table ≡ fin.empty) }
     {
-        Table::without_groups(alloc, hands.clamp(1, SHARDS))
+        Table::without_groups(Memory { alloc, seed }, hands.clamp(1, SHARDS))
     }
 
     /// Takes one more record into the group of its key. `row` has the values of the record, and `marks` says of each
@@ -218,7 +223,7 @@ impl Table {
         ensures groups { OnOk result (HasGroupsOfBoth self.old other self.new) }
         ensures joined { OnOk result (IsUnionOf self.old other self.new) }
     {
-        let fresh = Table::without_groups(self.alloc, 1)?;
+        let fresh = Table::without_groups(self.memory, 1)?;
         let table = mem::replace(self, fresh);
         *self = table.join(other)?;
         Ok(())
@@ -250,7 +255,7 @@ impl Table {
         if hands == 1 || other.len() < PARALLEL_MIN_GROUPS {
             return self.absorb(other);
         }
-        let fresh = Table::without_groups(self.alloc, 1)?;
+        let fresh = Table::without_groups(self.memory, 1)?;
         let table = mem::replace(self, fresh);
         *self = table.join_among(rt, hands, other)?;
         Ok(())
@@ -284,10 +289,11 @@ impl Table {
         if set.is_empty() {
             return self.roll_to_one(functions);
         }
-        let indices = indices_in(self.alloc, finer, set)?;
+        let Memory { alloc, seed } = self.memory;
+        let indices = indices_in(alloc, finer, set)?;
         let indices = indices.as_slice();
-        let mut pieces = Vec::with_capacity(self.alloc, finer.len())?;
-        let mut rolled = Table::new(self.alloc, set, functions)?;
+        let mut pieces = Vec::with_capacity(alloc, finer.len())?;
+        let mut rolled = Table::new(alloc, seed, set, functions)?;
         for shard in &self.shards {
             for (key, part) in &shard.groups {
                 let scratch = rolled.take_scratch();
@@ -308,12 +314,12 @@ impl Table {
             (finer : List ℕ) → KeepsTypes finer functions.now self.now [] table) }
         ensures whole { IfOk result (λ table. IsSome (fin.get table [])) }
     {
-        let mut group = Accumulators::new(self.alloc, functions)?;
+        let mut group = Accumulators::new(self.memory.alloc, functions)?;
         for shard in &self.shards {
-            shard.put_copies_to(&mut group)?;
+            shard.put_copies_to(self.memory, &mut group)?;
         }
-        let mut one = Table::without_groups(self.alloc, 1)?;
-        one.put_to_group(PackedKey::empty(self.alloc), group)?;
+        let mut one = Table::without_groups(self.memory, 1)?;
+        one.put_to_group(PackedKey::empty(self.memory.alloc), group)?;
         Ok(one)
     }
 
@@ -343,11 +349,12 @@ impl Table {
     {
         let count = self.len();
         let Table {
-            alloc,
+            memory,
             shards,
             scratch,
         } = self;
         drop(scratch);
+        let alloc = memory.alloc;
         let shortest = smallest_shard_len(shards.as_slice());
         let mut walks = walks_over(alloc, shards)?;
         let mut groups = Vec::with_capacity(alloc, count)?;
@@ -378,12 +385,12 @@ impl Table {
             return self.finish();
         }
         let Table {
-            alloc,
+            memory,
             shards,
             scratch,
         } = self;
         drop(scratch);
-        groups_among(rt, alloc, count, shards)
+        groups_among(rt, memory.alloc, count, shards)
     }
 
     /// Its groups as plain values, by ascending keys: of each the key, the number of its members, and the state of each set
@@ -400,12 +407,12 @@ impl Table {
     {
         let count = self.len();
         let Table {
-            alloc,
+            memory,
             shards,
             scratch,
         } = self;
         drop(scratch);
-        entries_of(alloc, count, shards)
+        entries_of(memory.alloc, count, shards)
     }
 
     /// Puts a group behind all that are there. These are for the same functions.
@@ -436,8 +443,8 @@ impl Table {
             members,
             states,
         } = entry;
-        let group = Accumulators::of_states(self.alloc, functions, members, states)?;
-        let key = PackedKey::of_values(self.alloc, key.as_slice())?;
+        let group = Accumulators::of_states(self.memory, functions, members, states)?;
+        let key = PackedKey::of_values(self.memory.alloc, key.as_slice())?;
         self.put_to_group(key, group)
     }
 
@@ -462,7 +469,7 @@ impl Table {
     fn take_scratch(&mut self) -> PackedKey
         ensures { self.new ≡ self.old }
     {
-        mem::replace(&mut self.scratch, PackedKey::empty(self.alloc))
+        mem::replace(&mut self.scratch, PackedKey::empty(self.memory.alloc))
     }
 
     /// Puts one more part to the group of a key, and keeps the key as the one by which a group was last searched.
@@ -478,7 +485,7 @@ impl Table {
     {
         self.scratch = key;
         let place = place_of(&self.scratch, self.shards.len());
-        self.shards[place].put(self.alloc, &self.scratch, functions, part)
+        self.shards[place].put(self.memory, &self.scratch, functions, part)
     }
 
     /// Moves one more part to the group of a key.
@@ -487,7 +494,7 @@ impl Table {
         ensures { OnOk result ((k : Key) → IsPut self.old self.new (key_in key) part k) }
     {
         let place = place_of(&key, self.shards.len());
-        self.shards[place].put_group(key, part)
+        self.shards[place].put_group(self.memory, key, part)
     }
 
     /// Puts the groups of a shard of another table to these, each to the group of its key.
@@ -508,7 +515,7 @@ impl Table {
         ensures { IfOk result (HasGroupsOfBoth self other) }
     {
         let Table {
-            alloc: _,
+            memory: _,
             shards,
             scratch,
         } = other;
@@ -529,19 +536,19 @@ impl Table {
             return self.join_by_key(other);
         }
         let Table {
-            alloc,
+            memory,
             shards,
             scratch,
         } = self;
         let Table {
-            alloc: _,
+            memory: _,
             shards: other_shards,
             scratch: other_scratch,
         } = other;
         drop(other_scratch);
-        let shards = join_shards(shards, other_shards)?;
+        let shards = join_shards(memory, shards, other_shards)?;
         Ok(Table {
-            alloc,
+            memory,
             shards,
             scratch,
         })
@@ -562,19 +569,19 @@ impl Table {
             return self.join_by_key(other);
         }
         let Table {
-            alloc,
+            memory,
             shards,
             scratch,
         } = self;
         let Table {
-            alloc: _,
+            memory: _,
             shards: other_shards,
             scratch: other_scratch,
         } = other;
         drop(other_scratch);
-        let shards = join_shards_among(rt, alloc, hands, shards, other_shards)?;
+        let shards = join_shards_among(rt, memory, hands, shards, other_shards)?;
         Ok(Table {
-            alloc,
+            memory,
             shards,
             scratch,
         })
@@ -582,7 +589,11 @@ impl Table {
 }
 
 /// The shards, each with the groups of the other list's shard of the same place.
-fn join_shards(shards: Vec<Shard>, others: Vec<Shard>) -> Result<Vec<Shard>, AllocError>
+fn join_shards(
+    memory: Memory,
+    shards: Vec<Shard>,
+    others: Vec<Shard>,
+) -> Result<Vec<Shard>, AllocError>
     requires count { vec_len others ≡ vec_len shards }
     requires each { CanJoinEach shards.items others.items }
     ensures count { IfOk result (λ joined. vec_len joined ≡ vec_len shards) }
@@ -590,7 +601,7 @@ fn join_shards(shards: Vec<Shard>, others: Vec<Shard>) -> Result<Vec<Shard>, All
 {
     let mut joined = shards;
     for (place, other) in others.into_iter().enumerate() {
-        joined[place].absorb(other)?;
+        joined[place].absorb(memory, other)?;
     }
     Ok(joined)
 }

@@ -3,7 +3,8 @@ use Rattle.std.proofs.lemmas.Result.{on_ok_weaker}
 use Rattle.std.specs.FinSet as set
 use Rattle.values.specs.Datum.{datum_of}
 use Rattle.semantics.specs.Aggregates.{is_present}
-use Rattle.tables_groups.specs.Inside.Values.{Values, values_in}
+use Rattle.tables_groups.specs.Inside.Values.{Values}
+use Rattle.tables_groups.specs.Inside.ValueSets.{shown}
 use Rattle.tables_groups.proofs.Sets.{union-absent, union-present}
 use Rattle.tables_groups.proofs.distinct_values.DistinctValues.add.Goals as goal
 
@@ -17,7 +18,6 @@ returns c =
     let value = c.args.value.now in
     let there : is_present (datum_of value) ≡ true = cc in
     on_ok_weaker c.insert_copy.result
-    (λ (h : values_in c.insert_copy.new.values.keys ≡ set.insert (values_in c.deref_mut.result.now.keys) (datum_of value)).
-    h ∙ ap (λ box. set.insert (values_in box.keys) (datum_of value)) c.deref_mut.ensures.value
-    ∙ ap (λ (s : Values). set.insert s (datum_of value)) c.self.view_is ∙ sym (union-present c.args.self.now (datum_of value) there))
+    (λ (h : shown c.insert_copy.new.self ≡ set.insert (shown c.self.inside.values) (datum_of value)).
+    h ∙ ap (λ (s : Values). set.insert s (datum_of value)) c.self.view_is ∙ sym (union-present c.args.self.now (datum_of value) there))
     c.insert_copy.ensures

@@ -2,15 +2,15 @@ use Rattle.std.proofs.Common.{◌≡◌, [], ◌∷◌, ap, sym, arith, ◌∙�
 use Rattle.std.specs.FinSet as set
 use Rattle.values.specs.Datum.{data_of, datum_of}
 use Rattle.tables_groups.specs.Inside.Values.{Values, set_of, values_in}
-use Rattle.tables_groups.proofs.Sets.{moved, shown-insert, union-empty, union-flip}
+use Rattle.tables_groups.specs.Inside.ValueSets.{shown}
+use Rattle.tables_groups.proofs.Sets.{moved, union-empty, union-flip}
 use Rattle.tables_groups.proofs.Walks.{none_left}
 use Rattle.tables_groups.proofs.distinct_values.DistinctValues.of_values.Goals as goal
 
 pub loop-value-init : goal.loop-value-init
 loop-value-init c =
     let left = values_in c.into_iter-value-iterator.result.rest.items in
-    ap (λ vs. set.union (values_in vs) left) c.with_hasher-set.ensures.empty
-    ∙ union-flip (set_of []) left
+    union-flip (set_of []) left
     ∙ union-empty left
     ∙ ap values_in c.into_iter-value-iterator.ensures.into_iter_gives.0
 
@@ -18,20 +18,18 @@ pub loop-value-preserved : goal.loop-value-preserved
 loop-value-preserved c =
     let rest = c.next.new.self.rest.items in
     let value = c.in-Some.value in
-    let so_far = c.loop-value.set.keys in
+    let so_far = shown c.loop-value.set in
     let is : c.loop-value.value-iterator.rest.items ≡ value ∷ rest = c.in-Some.ensures.steps.0 in
-    ap (λ (s : Values). set.union s (values_in rest))
-    (shown-insert so_far c.insert.new.self.keys value c.in_ok-insert.field-0 c.in_ok-insert.ensures.added c.in_ok-insert.ensures.keys)
-    ∙ moved (values_in so_far) (datum_of value) (data_of rest)
-    ∙ ap (λ vs. set.union (values_in so_far) (values_in vs)) (sym is)
+    ap (λ (s : Values). set.union s (values_in rest)) c.in_ok-insert.ensures
+    ∙ moved so_far (datum_of value) (data_of rest)
+    ∙ ap (λ vs. set.union so_far (values_in vs)) (sym is)
     ∙ c.loop-value.invariant
 
 pub returns : goal.returns
 returns c =
-    let all = values_in c.loop-value.set.keys in
+    let all = shown c.loop-value.set in
     let rest = c.loop-value.value-iterator.rest in
     let left : rest.items ≡ [] = none_left rest.items (let n = c.in-None.ensures.steps.0 in omega (arith, n, rest.ok)) in
-    ap (λ s. values_in s.keys) c.in_ok-values.ensures.ok
-    ∙ sym (union-empty all)
+    sym (union-empty all)
     ∙ ap (λ vs. set.union all (values_in vs)) (sym left)
     ∙ c.loop-value.invariant

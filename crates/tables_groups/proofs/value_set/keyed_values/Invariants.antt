@@ -3,7 +3,7 @@ use Rattle.std.specs.List.{AllByRecursion}
 use Rattle.sort_keys.specs.Codes.{IsCodable}
 use Rattle.values.specs.Datum.{data_of}
 use Rattle.tables_groups.specs.Inside.Keyed.{keyed_datum, keyed_value}
-use Rattle.tables_groups.proofs.distinct_values.keyed_values.Given as goal
+use Rattle.tables_groups.proofs.value_set.keyed_values.Given as goal
 
 -- the values so far, and then those that are left; and where these have codes, all have
 abbrev pub invariant-loop-thing : goal.invariant-loop-thing

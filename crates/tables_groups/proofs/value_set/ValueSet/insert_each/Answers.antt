@@ -4,24 +4,23 @@ use Rattle.std.specs.FinSet as set
 use Rattle.values.specs.Datum.{datum_of, data_of}
 use Rattle.values.specs.declared.value.Value.{Value}
 use Rattle.tables_groups.specs.Inside.Values.{Values, values_in}
-use Rattle.tables_groups.proofs.Sets.{union-empty, shown-insert, moved}
-use Rattle.tables_groups.proofs.distinct_values.DistinctValues.absorb.Goals as goal
+use Rattle.tables_groups.specs.Inside.ValueSets.{shown}
+use Rattle.tables_groups.proofs.Sets.{union-empty, moved}
+use Rattle.tables_groups.proofs.value_set.ValueSet.insert_each.Goals as goal
 
 pub loop-value-preserved : goal.loop-value-preserved
 loop-value-preserved c =
     let rest = c.next.new.self in
     let more = rest_more (λ (x : Value). x) c.loop-value.value-iterator rest c.next.result c.in-Some.value c.in-Some.is c.next.ensures.steps in
-    let so_far = c.deref_mut.result.now.keys in
-    ap (λ (s : Values). set.union s (values_in rest))
-    (shown-insert so_far c.insert.new.self.keys c.in-Some.value c.in_ok-insert.field-0 c.in_ok-insert.ensures.added c.in_ok-insert.ensures.keys)
-    ∙ moved (values_in so_far) (datum_of c.in-Some.value) (data_of rest)
-    ∙ ap (λ vs. set.union (values_in so_far) (values_in vs)) (sym more)
-    ∙ ap (λ box. set.union (values_in box.keys) (values_in c.loop-value.value-iterator)) c.deref_mut.ensures.value
+    let so_far = shown c.loop-value.self in
+    ap (λ (s : Values). set.union s (values_in rest)) c.in_ok-insert.ensures
+    ∙ moved so_far (datum_of c.in-Some.value) (data_of rest)
+    ∙ ap (λ vs. set.union so_far (values_in vs)) (sym more)
     ∙ c.loop-value.invariant
 
 pub returns : goal.returns
 returns c =
-    let all = values_in c.loop-value.self-inside.values.value.keys in
+    let all = shown c.loop-value.self in
     sym (union-empty all)
     ∙ ap (λ vs. set.union all (values_in vs)) (sym (rest_all (λ (x : Value). x) c.loop-value.value-iterator c.next.new.self c.next.result c.in-None.is c.next.ensures.steps))
     ∙ c.loop-value.invariant

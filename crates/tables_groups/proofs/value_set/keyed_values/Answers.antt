@@ -9,7 +9,7 @@ use Rattle.tables_groups.specs.declared.keyed.Keyed.{Keyed}
 use Rattle.tables_groups.specs.Inside.Keyed.{keyed_datum, keyed_value}
 use Rattle.tables_groups.proofs.Moved.{one-more}
 use Rattle.tables_groups.proofs.Sets.{data-distinct}
-use Rattle.tables_groups.proofs.distinct_values.keyed_values.Goals as goal
+use Rattle.tables_groups.proofs.value_set.keyed_values.Goals as goal
 
 pub loop-thing-preserved : goal.loop-thing-preserved
 loop-thing-preserved c =
