@@ -5,12 +5,15 @@
    READ_FAILS_AFTER=N                 once N bytes are read, each read fails
    WRITE_FAILS_AFTER=N, FAILING=F     once N bytes are written to file F, each write to it fails
    BEFORE_READ=N, COMMAND=TEXT        before read number N the shell runs this command
+   RANDOM_BYTES=zero|refused           the system's random bytes are all zero, or there are none
    CALLS_CUT=FILE                     makes this file where a call was cut short, interrupted or refused */
 #define _GNU_SOURCE
 #include <errno.h>
 #include <fcntl.h>
 #include <stdatomic.h>
 #include <stdlib.h>
+#include <string.h>
+#include <sys/random.h>
 #include <sys/syscall.h>
 #include <sys/types.h>
 #include <unistd.h>
@@ -84,4 +87,12 @@ ssize_t write(int file, const void *bytes, size_t count) {
     if (took > 0 && file == failing) atomic_fetch_add(&bytes_written, took);
     if (least < count) tell();
     return took;
+}
+
+int getentropy(void *bytes, size_t count) {
+    const char *random = getenv("RANDOM_BYTES");
+    if (!random) return getrandom(bytes, count, 0) == (ssize_t)count ? 0 : -1;
+    if (strcmp(random, "zero")) return (int)refuse(EIO);
+    memset(bytes, 0, count);
+    return 0;
 }

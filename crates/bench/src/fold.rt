@@ -20,7 +20,7 @@ use std::sync::Wait;
 use std::thread::Threads;
 use std::time::{Clock, Instant};
 use std::{fs, io};
-use tables::{Job, JobBy, Parallel, Partial, job_law, sound_law};
+use tables::{HashSeed, Job, JobBy, Parallel, Partial, job_law, sound_law};
 use values::Schema;
 
 /// The least bytes of a piece, but perhaps of the last one.
@@ -59,7 +59,7 @@ pub(crate) fn result_of<R: Threads + Wait + Sync>(
         return None;
     }
     job_law();
-    let executor = Parallel { rt, workers: hands };
+    let executor = Parallel { rt, workers: hands, seed: HashSeed::Fixed };
     let job = JobBy::new(
         Job::new(alloc, plan, input, pieces.as_slice()),
         &executor,
@@ -88,7 +88,7 @@ fn work<R: Threads + Wait + Clock + Print + Eprint + Sync>(
     };
     let (lines, refused) = (result.lines(), result.refused());
     sound_law();
-    let Ok(groups) = result.finish_by(&Parallel { rt, workers: hands }, plan) else {
+    let Ok(groups) = result.finish_by(&Parallel { rt, workers: hands, seed: HashSeed::Fixed }, plan) else {
         return Ok(());
     };
     let taken = start.elapsed(rt)?.as_nanos();

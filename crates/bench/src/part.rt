@@ -19,7 +19,7 @@ use std::sync::Wait;
 use std::thread::Threads;
 use std::time::{Clock, Instant};
 use std::{fs, io};
-use tables::Parallel;
+use tables::{HashSeed, Parallel};
 
 /// Makes the result of an input, writes and reads its part, and prints what came of it and how long it took.
 fn work<R: Threads + Wait + Clock + Print + Eprint + Sync>(
@@ -41,7 +41,7 @@ fn work<R: Threads + Wait + Clock + Print + Eprint + Sync>(
     };
     let written = start.elapsed(rt)?.as_nanos();
     let start = Instant::now(rt)?;
-    let executor = Parallel { rt, workers: hands };
+    let executor = Parallel { rt, workers: hands, seed: HashSeed::Fixed };
     let Ok(again) = read_parts(alloc, plan, &executor, part.as_slice()) else {
         return Ok(());
     };

@@ -12,6 +12,7 @@ use std::fs::File;
 use std::io::{Read, Stdin};
 use std::marker::Sync;
 use std::process::ExitCode;
+use std::random::RandomSource;
 use std::sync::Wait;
 use std::thread::Threads;
 use std::{env, io};
@@ -87,7 +88,7 @@ fn texts_of(alloc: Global, words: &[String]) -> Result<Vec<&str>, AllocError> {
 /// Does what is asked for, with the standard streams, the real files and threads.
 fn serve_here(
     rt: &HostRuntime,
-    threads: &(impl Threads + Wait + Sync),
+    threads: &(impl Threads + Wait + RandomSource + Sync),
     asked: Result<Settings<'_>, WordsFault>,
 ) -> u8 {
     let (mut out, mut err) = (rt.stdout(), rt.stderr());
@@ -97,7 +98,7 @@ fn serve_here(
 }
 
 /// Does what words ask for.
-fn serve_words(rt: &HostRuntime, threads: &(impl Threads + Wait + Sync), words: &[String]) -> u8 {
+fn serve_words(rt: &HostRuntime, threads: &(impl Threads + Wait + RandomSource + Sync), words: &[String]) -> u8 {
     match texts_of(rt.alloc(), words) {
         Ok(texts) => serve_here(rt, threads, settings(rt.alloc(), texts.as_slice())),
         Err(error) => serve_here(rt, threads, Err(out_of_memory(error))),

@@ -7,6 +7,7 @@ ghost use Rattle.jlreport_engine.specs.Joined.{IsJoined, IsOver, fault_of_parts}
 
 use crate::parting::write_whole_part;
 use crate::running::write_whole;
+use crate::seeding::random_seed;
 use jlreport_cli::Options;
 use parts::{PartsRefusal, read_parts};
 use query::Plan;
@@ -14,6 +15,7 @@ use semantics::{Done, JoinFault, RunFault};
 use std::alloc::Global;
 use std::io::{Read, Write};
 use std::marker::{Send, Sync};
+use std::random::RandomSource;
 use std::thread::Threads;
 use tables::{Executor, Parallel, Partial};
 
@@ -37,7 +39,7 @@ use tables::{Executor, Parallel, Partial};
 /// `Run` where the join fails as a run does: by `Reading`, `OutOfMemory` or `TooManyRefused`, and nothing was written;
 /// by `WritingReport`, and a beginning of the report was written, and nothing of the list; or by `WritingRefused`, and
 /// the report was written, and a beginning of the list. It never answers `ThreadNotStarted`.
-pub fn run_join<R: Read + Drop, O: Write, E: Write, H: Threads + Sync>(
+pub fn run_join<R: Read + Drop, O: Write, E: Write, H: Threads + RandomSource + Sync>(
     rt: &H,
     alloc: Global,
     plan: &Plan,
@@ -56,6 +58,7 @@ pub fn run_join<R: Read + Drop, O: Write, E: Write, H: Threads + Sync>(
     let parallel = Parallel {
         rt,
         workers: options.workers(),
+        seed: random_seed(rt).map_err(JoinFault::Run)?,
     };
     let whole = join_within(alloc, plan, options, &parallel, reader)?;
     write_whole(&parallel, alloc, plan, whole, out, err).map_err(JoinFault::Run)
@@ -76,7 +79,7 @@ pub fn run_join<R: Read + Drop, O: Write, E: Write, H: Threads + Sync>(
 /// then nothing was written. It refuses parts of inputs only where `run_join` may. `Run` where the join fails as a run
 /// to a part does: by `Reading`, `OutOfMemory` or `TooManyRefused`, and nothing was written; or by `WritingPart`, and a
 /// beginning of the part was written. It never answers `ThreadNotStarted`.
-pub fn join_partial<R: Read + Drop, O: Write, H: Threads + Sync>(
+pub fn join_partial<R: Read + Drop, O: Write, H: Threads + RandomSource + Sync>(
     rt: &H,
     alloc: Global,
     plan: &Plan,
@@ -93,6 +96,7 @@ pub fn join_partial<R: Read + Drop, O: Write, H: Threads + Sync>(
     let parallel = Parallel {
         rt,
         workers: options.workers(),
+        seed: random_seed(rt).map_err(JoinFault::Run)?,
     };
     let whole = join_within(alloc, plan, options, &parallel, reader)?;
     write_whole_part(alloc, plan, whole, out).map_err(JoinFault::Run)

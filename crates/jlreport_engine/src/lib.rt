@@ -6,6 +6,7 @@ mod joining;
 mod parting;
 mod reporting;
 mod running;
+mod seeding;
 mod serving;
 mod writing;
 

@@ -4,6 +4,7 @@ ghost use Rattle.semantics.specs.Joins.{IsPartialRun};
 ghost use Rattle.semantics.specs.Run.{IsWithin};
 ghost use Rattle.jlreport_engine.specs.Run.{StandsForKnown};
 
+use crate::seeding::random_seed;
 use crate::writing::put_and_flush;
 use jlreport_cli::Options;
 use jlreport_scan::gather;
@@ -13,6 +14,7 @@ use semantics::{Done, RunFault};
 use std::alloc::Global;
 use std::io::{Read, Write};
 use std::marker::{Send, Sync};
+use std::random::RandomSource;
 use std::sync::Wait;
 use std::thread::Threads;
 use tables::Partial;
@@ -28,11 +30,11 @@ use tables::Partial;
 ///
 /// # Errors
 ///
-/// `Reading` where a read fails or the input has 2^63 bytes or more, `OutOfMemory` where memory runs out,
+/// `Reading` where a read fails, the system gives no random bytes or the input has 2^63 bytes or more, `OutOfMemory` where memory runs out,
 /// `ThreadNotStarted` where a thread cannot be started, which one worker never answers, `TooManyRefused` where more
 /// lines are refused than the options allow: then nothing was written. `WritingPart` where a write or the flush of
 /// the part fails: then a beginning of it was written.
-pub fn run_partial<R: Read + Drop + Send, O: Write, H: Threads + Wait + Sync>(
+pub fn run_partial<R: Read + Drop + Send, O: Write, H: Threads + Wait + RandomSource + Sync>(
     rt: &H,
     alloc: Global,
     plan: &Plan,
@@ -46,7 +48,8 @@ pub fn run_partial<R: Read + Drop + Send, O: Write, H: Threads + Wait + Sync>(
     ensures started { options.workers ≡ 1
         → IfErr result (λ fault. fault ≢ RunFault.ThreadNotStarted) }
 {
-    let whole = gather(rt, alloc, plan, options, reader)?;
+    let seed = random_seed(rt)?;
+    let whole = gather(rt, alloc, plan, options, seed, reader)?;
     write_whole_part(alloc, plan, whole, out)
 }
 

@@ -6,6 +6,7 @@ ghost use Rattle.semantics.specs.Run.{IsRun, IsWithin, refusals, report};
 ghost use Rattle.jlreport_engine.specs.Run.{StandsForKnown};
 
 use crate::reporting::ReportExecutor;
+use crate::seeding::random_seed;
 use crate::writing::put_both;
 use jlreport_cli::Options;
 use jlreport_scan::{gather, gather_alone};
@@ -15,6 +16,7 @@ use semantics::{Done, RunFault};
 use std::alloc::{AllocError, Global};
 use std::io::{Read, Write};
 use std::marker::{Send, Sync};
+use std::random::RandomSource;
 use std::sync::Wait;
 use std::thread::Threads;
 use tables::{Groups, Parallel, Partial, Serial, sound_law};
@@ -46,13 +48,13 @@ struct Texts {
 ///
 /// # Errors
 ///
-/// `Reading` where a read fails or the input has 2^63 bytes or more, `OutOfMemory` where memory runs
+/// `Reading` where a read fails, the system gives no random bytes or the input has 2^63 bytes or more, `OutOfMemory` where memory runs
 /// out, `ThreadNotStarted` where a thread cannot be started, which one worker never answers,
 /// `TooManyRefused` where more lines are refused than the options allow: then nothing was written.
 /// `WritingReport` where a write or the flush of the report fails: then a beginning of it was
 /// written, and nothing of the list. `WritingRefused` where a write or the flush of the list fails:
 /// then the report was written, and a beginning of the list.
-pub fn run<R: Read + Drop + Send, O: Write, E: Write, H: Threads + Wait + Sync>(
+pub fn run<R: Read + Drop + Send, O: Write, E: Write, H: Threads + Wait + RandomSource + Sync>(
     rt: &H,
     alloc: Global,
     plan: &Plan,
@@ -68,11 +70,13 @@ pub fn run<R: Read + Drop + Send, O: Write, E: Write, H: Threads + Wait + Sync>(
     ensures started { options.workers ≡ 1
         → IfErr result (λ fault. fault ≢ RunFault.ThreadNotStarted) }
 {
-    let whole = gather(rt, alloc, plan, options, reader)?;
+    let seed = random_seed(rt)?;
+    let whole = gather(rt, alloc, plan, options, seed, reader)?;
     sound_law();
     let parallel = Parallel {
         rt,
         workers: options.workers(),
+        seed,
     };
     write_whole(&parallel, alloc, plan, whole, out, err)
 }

@@ -19,6 +19,7 @@ use semantics::{Done, Ending, RunFault};
 use std::alloc::{AllocError, Global};
 use std::io::{Read, Write};
 use std::marker::{Send, Sync};
+use std::random::RandomSource;
 use std::sync::Wait;
 use std::thread::Threads;
 use values::Schema;
@@ -44,7 +45,7 @@ pub fn serve<
     O: Write,
     E: Write,
     F: FnMut(&str) -> Option<R>,
-    H: Threads + Wait + Sync,
+    H: Threads + Wait + RandomSource + Sync,
 >(
     rt: &H,
     alloc: Global,
@@ -104,7 +105,7 @@ fn execute<
     O: Write,
     E: Write,
     F: FnMut(&str) -> Option<R>,
-    H: Threads + Wait + Sync,
+    H: Threads + Wait + RandomSource + Sync,
 >(
     rt: &H,
     alloc: Global,
@@ -136,7 +137,7 @@ fn execute<
 
 /// Answers the query over the lines that a reader gives, or over those whose parts it gives, by a report or by a part, and
 /// answers the status. Where a part is written it is 0, whether or not lines are refused.
-fn answer<R: Read + Drop + Send, O: Write, E: Write, H: Threads + Wait + Sync>(
+fn answer<R: Read + Drop + Send, O: Write, E: Write, H: Threads + Wait + RandomSource + Sync>(
     rt: &H,
     alloc: Global,
     plan: &Plan,

@@ -21,7 +21,7 @@ use std::sync::Wait;
 use std::sync::atomic::{AtomicBool, Ordering};
 use std::sync::ledger::{Blank, Ledger};
 use std::thread::{Threads, join};
-use tables::{Parallel, Partial};
+use tables::{Executor, HashSeed, Parallel, Partial, Serial};
 
 /// The most bytes of a round that is worked on by the calling thread alone: so few that they stay near the processor
 /// from the read to the last look at them, and no memory has to be touched for the first time beyond them.
@@ -47,8 +47,23 @@ pub fn gather_alone<R: Read + Drop>(
         (R.remaining reader) }
     ensures started { IfErr result (λ fault. fault ≢ GatherFault.ThreadNotStarted) }
 {
+    gather_by(&Serial, alloc, plan, options, reader)
+}
+
+/// The same, in a table of an executor.
+fn gather_by<X: Executor, R: Read + Drop>(
+    executor: &X,
+    alloc: Global,
+    plan: &Plan,
+    options: Options,
+    reader: R,
+) -> Result<Partial, GatherFault>
+    ensures gather { IsGather result options.max_refused plan.now.fields plan.now.query
+        (R.remaining reader) }
+    ensures started { IfErr result (λ fault. fault ≢ GatherFault.ThreadNotStarted) }
+{
     let mut rounds = Rounds::new(alloc, reader, options.round().min(LONGEST_ALONE))?;
-    let mut whole = Partial::empty(alloc, plan)?;
+    let mut whole = Partial::empty_by(alloc, plan, executor)?;
     while rounds.advance()? {
         whole = whole.fold_behind(plan, rounds.round())?;
         check_limit(options, whole.refused())?;
@@ -58,10 +73,11 @@ pub fn gather_alone<R: Read + Drop>(
 
 /// The result of a query over what a reader gives, worked on round by round by as many threads as there are workers, the
 /// calling one among them. Where there are several, one thread more reads the next round meanwhile, if there may be one.
-/// With one worker it is `gather_alone`, and no thread is started.
+/// With one worker it does what `gather_alone` does, and no thread is started. The seed is that by which the groups are
+/// hashed; the result does not depend on it.
 ///
 /// Example: with the plan of `SELECT SUM(q) AS s FROM lines` under `q:int`, and the one line `{"q":5}` as the input,
-/// `gather(&rt, alloc, &plan, options, input)`, where nothing is refused to it, answers a result of which `lines()` is 1
+/// `gather(&rt, alloc, &plan, options, seed, input)`, where nothing is refused to it, answers a result of which `lines()` is 1
 /// and `refused()` is 0.
 ///
 /// # Errors
@@ -74,6 +90,7 @@ pub fn gather<R: Read + Drop + Send, H: Threads + Wait + Sync>(
     alloc: Global,
     plan: &Plan,
     options: Options,
+    seed: HashSeed,
     reader: R,
 ) -> Result<Partial, GatherFault>
     ensures gather { IsGather result options.max_refused plan.now.fields plan.now.query
@@ -81,11 +98,13 @@ pub fn gather<R: Read + Drop + Send, H: Threads + Wait + Sync>(
     ensures started { options.workers ≡ 1
         → IfErr result (λ fault. fault ≢ GatherFault.ThreadNotStarted) }
 {
-    if options.workers() == 1 {
-        return gather_alone(alloc, plan, options, reader);
+    let workers = options.workers();
+    if workers == 1 {
+        let executor = Parallel { rt, workers, seed };
+        return gather_by(&executor, alloc, plan, options, reader);
     }
-    let blank = Blank::new(options.workers() as u64);
-    gather_reading_ahead::<Brand, R, H>(rt, alloc, plan, options, reader, blank)
+    let blank = Blank::new(workers as u64);
+    gather_reading_ahead::<Brand, R, H>(rt, alloc, plan, options, seed, reader, blank)
 }
 
 /// The same with one book of refused lines over all rounds, whose ledger is L, and with two buffers: while a round is
@@ -95,6 +114,7 @@ fn gather_reading_ahead<L: Ledger + Send + Sync, R: Read + Drop + Send, H: Threa
     alloc: Global,
     plan: &Plan,
     options: Options,
+    seed: HashSeed,
     reader: R,
     blank: Blank,
 ) -> Result<Partial, GatherFault>
@@ -109,6 +129,7 @@ fn gather_reading_ahead<L: Ledger + Send + Sync, R: Read + Drop + Send, H: Threa
         alloc,
         plan,
         options,
+        seed,
         book: &book,
     };
     let mut ahead = first_ahead(&scan, reader, shares)?;
@@ -153,6 +174,7 @@ fn first_ahead<L: Ledger, R: Read + Drop, H: Threads + Sync>(
     let parallel = Parallel {
         rt: scan.rt,
         workers: options.workers(),
+        seed: scan.seed,
     };
     let whole = Partial::empty_by(scan.alloc, scan.plan, &parallel)?;
     let found = rounds.advance()?;

@@ -19,7 +19,7 @@ use std::marker::{Send, Sync};
 use std::sync::Wait;
 use std::sync::ledger::Ledger;
 use std::thread::Threads;
-use tables::{Job, JobBy, Parallel, Partial, job_law};
+use tables::{HashSeed, Job, JobBy, Parallel, Partial, job_law};
 
 /// Nothing, where so many refused lines are not more than may be; else the fault that says so.
 pub(crate) fn check_limit(options: Options, count: u64) -> Result<(), GatherFault>
@@ -40,6 +40,8 @@ pub(crate) struct Scan<'a, L: Ledger, H> {
     pub(crate) alloc: Global,
     pub(crate) plan: &'a Plan,
     pub(crate) options: Options,
+    /// The seed by which the tables hash.
+    pub(crate) seed: HashSeed,
     /// The book of refused lines.
     pub(crate) book: &'a Book<L>,
 }
@@ -91,6 +93,7 @@ pub(crate) fn work_on_round<L: Ledger + Send + Sync, H: Threads + Wait + Sync>(
     let executor = Parallel {
         rt: scan.rt,
         workers: shares.len(),
+        seed: scan.seed,
     };
     // The front is the piece of index 0.
     let job = JobBy::new(

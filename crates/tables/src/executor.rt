@@ -13,7 +13,7 @@ use std::alloc::{AllocError, Global};
 use std::marker::Sync;
 use std::thread;
 use std::thread::Threads;
-use tables_groups::{Group, Table};
+use tables_groups::{Group, HashSeed, Table};
 
 /// Who begins tables of groups, merges them, rolls them up and finishes them.
 ///
@@ -28,12 +28,27 @@ pub trait Executor {
     /// The table of no records under a grouping set, for these set functions, laid out so that this executor is fast in
     /// merging others into it.
     ///
-    /// Example: `executor.empty_table(alloc, set, functions)?` means what `Table::new(alloc, set, functions)?` means.
+    /// Example: `executor.empty_table(alloc, set, functions)?` means what `Table::new(alloc, seed, set, functions)?` means.
     ///
     /// # Errors
     ///
     /// `AllocError` where there is no memory for it.
     fn empty_table(
+        &self,
+        alloc: Global,
+        set: &[usize],
+        functions: &[FilteredFunction],
+    ) -> Result<Table, AllocError>
+        ensures empty { IfOk result (IsOfNone set.now functions.now) };
+
+    /// The table of no records that `empty_table` gives, laid out for the records of one piece, which one thread puts there.
+    ///
+    /// Example: `executor.piece_table(alloc, set, functions)?` means what `Table::new(alloc, seed, set, functions)?` means.
+    ///
+    /// # Errors
+    ///
+    /// `AllocError` where there is no memory for it.
+    fn piece_table(
         &self,
         alloc: Global,
         set: &[usize],
@@ -97,7 +112,7 @@ pub trait Executor {
         ensures typed { IfOk result (λ groups. HaveTypesOfTable table groups.items) };
 }
 
-/// The calling thread alone.
+/// The calling thread alone, whose tables hash by the fixed seed.
 ///
 /// Example: `first.merge_by(&Serial, second)?` is `first.merge(second)?`.
 pub struct Serial;
@@ -115,11 +130,20 @@ impl Executor for Serial {
         set: &[usize],
         functions: &[FilteredFunction],
     ) -> Result<Table, AllocError> {
-        Table::new(alloc, set, functions)
+        Table::new(alloc, HashSeed::Fixed, set, functions)
+    }
+
+    fn piece_table(
+        &self,
+        alloc: Global,
+        set: &[usize],
+        functions: &[FilteredFunction],
+    ) -> Result<Table, AllocError> {
+        Table::new(alloc, HashSeed::Fixed, set, functions)
     }
 
     fn table_without_groups(&self, alloc: Global) -> Result<Table, AllocError> {
-        Table::for_entries(alloc, 1)
+        Table::for_entries(alloc, HashSeed::Fixed, 1)
     }
 
     fn merge_tables(&self, first: Table, second: Table) -> Result<Table, AllocError> {
@@ -141,7 +165,7 @@ impl Executor for Serial {
 
 /// As many threads as there are workers, the calling one among them. There is a worker.
 ///
-/// Example: `first.merge_by(&Parallel { rt: &rt, workers: 4 }, second)?` stands for the pieces of both, as
+/// Example: `first.merge_by(&Parallel { rt: &rt, workers: 4, seed }, second)?` stands for the pieces of both, as
 /// `first.merge(second)?` does.
 #[derive(Drop)]
 pub struct Parallel<'a, H> {
@@ -149,6 +173,8 @@ pub struct Parallel<'a, H> {
     pub rt: &'a H,
     /// How many workers there are.
     pub workers: usize,
+    /// The seed by which the tables hash.
+    pub seed: HashSeed,
 }
 
 impl<'a, H: Threads + Sync> Executor for Parallel<'a, H> {
@@ -166,11 +192,20 @@ impl<'a, H: Threads + Sync> Executor for Parallel<'a, H> {
         set: &[usize],
         functions: &[FilteredFunction],
     ) -> Result<Table, AllocError> {
-        Table::for_hands(alloc, self.workers, set, functions)
+        Table::for_hands(alloc, self.seed, self.workers, set, functions)
+    }
+
+    fn piece_table(
+        &self,
+        alloc: Global,
+        set: &[usize],
+        functions: &[FilteredFunction],
+    ) -> Result<Table, AllocError> {
+        Table::new(alloc, self.seed, set, functions)
     }
 
     fn table_without_groups(&self, alloc: Global) -> Result<Table, AllocError> {
-        Table::for_entries(alloc, self.workers)
+        Table::for_entries(alloc, self.seed, self.workers)
     }
 
     fn merge_tables(&self, first: Table, second: Table) -> Result<Table, AllocError> {

@@ -102,6 +102,17 @@ pub(crate) fn empty_table<E: Executor>(
     executor.empty_table(alloc, plan.grouping(), plan.set_functions())
 }
 
+/// The table of no records of a plan, to which the executor puts those of one piece.
+pub(crate) fn piece_table<E: Executor>(
+    alloc: Global,
+    plan: &Plan,
+    executor: &E,
+) -> Result<Table, AllocError>
+    ensures { IfOk result (λ table. IsTableOfKept plan.now table []) }
+{
+    executor.piece_table(alloc, plan.grouping(), plan.set_functions())
+}
+
 /// Reads the lines of a piece behind the records that a table has.
 pub(crate) fn read_onto(
     alloc: Global,

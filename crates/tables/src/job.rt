@@ -112,7 +112,7 @@ impl<'a> Work for Job<'a> {
 /// A job whose results are merged by an executor. Its pieces have indexes from a first one on, so that they can stand behind
 /// pieces that a result has already; no index is above the greatest number of 32 bits.
 ///
-/// Example: a pool makes of `JobBy::new(job, &Parallel { rt: &rt, workers: 4 }, 0)` what it makes of `job`.
+/// Example: a pool makes of `JobBy::new(job, &Parallel { rt: &rt, workers: 4, seed }, 0)` what it makes of `job`.
 #[derive(Drop)]
 pub struct JobBy<'a, E: Executor> {
     job: Job<'a>,
@@ -169,9 +169,10 @@ impl<'a, J: Executor> Work for JobBy<'a, J> {
     }
 
     fn piece(&self, i: u32) -> Result<Partial, AllocError> {
-        Partial::fold_piece(
+        Partial::fold_piece_by(
             self.job.alloc,
             self.job.plan,
+            self.executor,
             self.index(i),
             self.job.bytes(i),
         )

@@ -25,4 +25,4 @@ pub use laws::{
 };
 pub use partial::Partial;
 pub use rolling::{Roll, SetTable};
-pub use tables_groups::{Cell, Group};
+pub use tables_groups::{Cell, Group, HashSeed};

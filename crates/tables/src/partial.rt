@@ -7,7 +7,7 @@ ghost use Rattle.tables_groups.specs.Inside.Table.{IsCounted};
 
 use crate::contents::PartialContents;
 use crate::executor::{Executor, Serial};
-use crate::folding::{Folding, empty_table, read_onto};
+use crate::folding::{Folding, empty_table, piece_table, read_onto};
 use crate::grouped::Groups;
 use crate::laws::members_law;
 use crate::numbering::{number, number_behind, put_behind};
@@ -117,7 +117,7 @@ impl Partial {
 
     /// What `empty` gives, laid out so that the executor is fast in merging other results into it.
     ///
-    /// Example: `Partial::empty_by(alloc, &plan, &Parallel { rt: &rt, workers: 4 })?` stands for no pieces, as
+    /// Example: `Partial::empty_by(alloc, &plan, &Parallel { rt: &rt, workers: 4, seed })?` stands for no pieces, as
     /// `Partial::empty(alloc, &plan)?` does.
     ///
     /// # Errors
@@ -161,8 +161,29 @@ impl Partial {
         ensures stands { IfOk result (λ partial.
             StandsForUnder plan.now partial (record { index = index; bytes = piece.now } ∷ [])) }
     {
+        Partial::fold_piece_by(alloc, plan, &Serial, index, piece)
+    }
+
+    /// What `fold_piece` gives, in a table of the executor.
+    ///
+    /// Example: `Partial::fold_piece_by(alloc, &plan, &Serial, 0, piece)?` is `Partial::fold_piece(alloc, &plan, 0, piece)?`.
+    ///
+    /// # Errors
+    ///
+    /// `AllocError` where there is no memory for it.
+    pub fn fold_piece_by<E: Executor>(
+        alloc: Global,
+        plan: &Plan,
+        executor: &E,
+        index: u32,
+        piece: &[u8],
+    ) -> Result<Partial, AllocError>
+        requires { length piece.now < 2 ^ 63 }
+        ensures stands { IfOk result (λ partial.
+            StandsForUnder plan.now partial (record { index = index; bytes = piece.now } ∷ [])) }
+    {
         let shape = Shape::of(alloc, plan)?;
-        let empty = empty_table(alloc, plan, &Serial)?;
+        let empty = piece_table(alloc, plan, executor)?;
         let Folding {
             table,
             lines,
@@ -288,7 +309,7 @@ impl Partial {
 
     /// What `merge` does, where the executor merges the tables. It can do so.
     ///
-    /// Example: `first.merge_by(&Parallel { rt: &rt, workers: 4 }, second)?` stands for the pieces of both, as
+    /// Example: `first.merge_by(&Parallel { rt: &rt, workers: 4, seed }, second)?` stands for the pieces of both, as
     /// `first.merge(second)?` does.
     ///
     /// # Errors
@@ -355,7 +376,7 @@ impl Partial {
 
     /// What `follow` does, where the executor merges the tables. It can do so.
     ///
-    /// Example: `front.follow_by(&Parallel { rt: &rt, workers: 4 }, rest)?` stands for the whole input, as
+    /// Example: `front.follow_by(&Parallel { rt: &rt, workers: 4, seed }, rest)?` stands for the whole input, as
     /// `front.follow(rest)?` does.
     ///
     /// # Errors
@@ -518,7 +539,7 @@ impl Partial {
     ///
     /// This is a result that the plan can finish, as each one of the plan over some pieces is (`sound_law`).
     ///
-    /// Example: `partial.finish_by(&Parallel { rt: &rt, workers: 4 }, &plan)?` gives the groups and the refused lines that
+    /// Example: `partial.finish_by(&Parallel { rt: &rt, workers: 4, seed }, &plan)?` gives the groups and the refused lines that
     /// `partial.finish(&plan)?` gives.
     ///
     /// # Errors

@@ -10,7 +10,7 @@ ghost use Rattle.tables_groups.specs.Inside.Table.{HasFewRecords, IsTableOf};
 use query_resolve::{ColumnFunction, FilteredFunction};
 use std::alloc::{AllocError, Global};
 use std::test::Fail;
-use tables_groups::{Cell, Group, Table};
+use tables_groups::{Cell, Group, HashSeed, Table};
 use values::Value;
 
 /// A value of a record that is written by hand.
@@ -63,7 +63,7 @@ fn table_of(
         (map (aggregate_of ((λ row. is_present (value_at 1 row)) ∷ [])) functions.now) table rows
         × (length rows < 2 ^ 62))) }
 {
-    let mut table = Table::new(alloc, set, functions)?;
+    let mut table = Table::new(alloc, HashSeed::Fixed, set, functions)?;
     for fields in records {
         let row = row_of(alloc, fields)?;
         let values = row.as_slice();

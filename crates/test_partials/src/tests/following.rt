@@ -14,7 +14,7 @@ use std::alloc::{AllocError, Global};
 use std::marker::Sync;
 use std::process::Abort;
 use std::thread::Threads;
-use tables::{Parallel, Partial, sound_law};
+use tables::{HashSeed, Parallel, Partial, sound_law};
 
 /// An input in two parts, how many lines it has, and its refused lines.
 #[derive(Clone, Copy)]
@@ -150,7 +150,7 @@ pub fn follow_by_hands<H: Abort + Threads + Sync>(
         Ok(whole) => {
             assert!(rt; whole.same_shape(&behind));
             assert!(rt; whole.lines() + behind.lines() < 1 << 63);
-            whole.follow_by(&Parallel { rt, workers: count }, behind)
+            whole.follow_by(&Parallel { rt, workers: count, seed: HashSeed::Fixed }, behind)
         }
         Err(refused) => {
             drop(behind);

@@ -9,7 +9,7 @@ use std::alloc::{AllocError, Global};
 use std::marker::Sync;
 use std::process::Abort;
 use std::thread::Threads;
-use tables::{Group, Groups, Parallel, Partial, sound_law};
+use tables::{Group, Groups, HashSeed, Parallel, Partial, sound_law};
 
 /// A line for each number from the first one to before the last one, which stands in two columns.
 fn numbered_lines(alloc: Global, first: u32, last: u32) -> Result<String, AllocError> {
@@ -36,7 +36,7 @@ fn begun_by_hands<H: Abort + Threads + Sync>(
 ) -> Result<Partial, AllocError>
     ensures { IfOk result (IsPartialOf plan.now.fields plan.now.query) }
 {
-    let begun = Partial::empty_by(alloc, plan, &Parallel { rt, workers: count })?;
+    let begun = Partial::empty_by(alloc, plan, &Parallel { rt, workers: count, seed: HashSeed::Fixed })?;
     assert!(rt; begun.lines() < 1 << 62);
     assert!(rt; has_few_lines(piece));
     begun.fold_onto(plan, index, piece)
@@ -86,7 +86,7 @@ fn assert_finds<H: Abort + Threads + Sync>(
 {
     sound_law();
     let groups = partial
-        .finish_by(&Parallel { rt, workers: count }, plan)
+        .finish_by(&Parallel { rt, workers: count, seed: HashSeed::Fixed }, plan)
         .expect(rt, "memory");
     assert_eq!(rt; groups.rows().len(), wanted.rows().len());
     let rows = sorted_rows(rt, alloc, &groups);

@@ -8,6 +8,7 @@ use std::alloc::Global;
 use std::io::ErrorKind;
 use std::marker::Sync;
 use std::process::Abort;
+use std::random::RandomSource;
 use std::sync::Wait;
 use std::thread::Threads;
 
@@ -29,7 +30,7 @@ const DONE: Done = Done {
 
 /// The part of an input.
 fn part_of(
-    rt: &(impl Abort + Threads + Wait + Sync),
+    rt: &(impl Abort + Threads + Wait + RandomSource + Sync),
     alloc: Global,
     (plan, options): (&Plan, Options),
     input: &[u8],
@@ -42,7 +43,7 @@ fn part_of(
 
 /// The parts of the two shards, one behind the other.
 fn parts(
-    rt: &(impl Abort + Threads + Wait + Sync),
+    rt: &(impl Abort + Threads + Wait + RandomSource + Sync),
     alloc: Global,
     (plan, options): (&Plan, Options),
 ) -> Vec<u8> {
@@ -155,7 +156,7 @@ fn failing_sink(alloc: Global, room: usize, flushes: bool) -> Sink {
 
 /// As much of the part of both shards is written as a writer has room for: of a run, and of a join.
 fn assert_part_cut(
-    rt: &(impl Abort + Threads + Wait + Sync),
+    rt: &(impl Abort + Threads + Wait + RandomSource + Sync),
     alloc: Global,
     (plan, options): (&Plan, Options),
     part: &[u8],
@@ -204,7 +205,7 @@ fn parts_that_are_not_written(rt: HostRuntime) {
 
 /// What a join with these writers answers, and that these were given all there was room for of the report and the list.
 fn assert_join_cut(
-    rt: &(impl Abort + Threads + Wait + Sync),
+    rt: &(impl Abort + Threads + Wait + RandomSource + Sync),
     alloc: Global,
     (plan, options): (&Plan, Options),
     part: &[u8],
@@ -294,7 +295,7 @@ fn written(room: &[u8]) -> &[u8] {
 /// Where memory is refused the join of the part of both shards says so and nothing is written, else the report is, or the part
 /// again. It takes no memory but the join's.
 fn assert_joined(
-    rt: &(impl Abort + Threads + Wait + Sync),
+    rt: &(impl Abort + Threads + Wait + RandomSource + Sync),
     alloc: Global,
     (plan, options): (&Plan, Options),
     part: &[u8],

@@ -8,6 +8,7 @@ use std::marker::Sync;
 use std::sync::Wait;
 use std::test::Fail;
 use std::thread::Threads;
+use tables::HashSeed;
 
 /// The numbers of lines and of refused lines that a call gathers of an input.
 fn gather_counts(
@@ -19,7 +20,7 @@ fn gather_counts(
 ) -> Result<(u64, u64), GatherFault> {
     let whole = match by {
         By::Alone => gather_alone(alloc, plan, options, input)?,
-        By::Workers(_) => gather(rt, alloc, plan, options, input)?,
+        By::Workers(_) => gather(rt, alloc, plan, options, HashSeed::Fixed, input)?,
     };
     Ok((whole.lines(), whole.refused()))
 }

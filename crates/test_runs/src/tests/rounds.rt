@@ -10,6 +10,7 @@ use std::alloc::{AllocError, Global};
 use std::io::ErrorKind;
 use std::marker::Sync;
 use std::process::Abort;
+use std::random::RandomSource;
 use std::sync::Wait;
 use std::test::Fail;
 use std::thread::Threads;
@@ -113,7 +114,7 @@ const SIZES: [(usize, usize, usize); 6] = [
 
 /// Asserts that a case is done by each call in rounds of each size, from readers that give few bytes a call and many.
 fn assert_done_in_rounds(
-    rt: &(impl Abort + Threads + Wait + Sync),
+    rt: &(impl Abort + Threads + Wait + RandomSource + Sync),
     alloc: Global,
     case: &Case<'_>,
 ) {

@@ -8,6 +8,7 @@ use std::alloc::Global;
 use std::io::{ErrorKind, Read, Write};
 use std::marker::{Send, Sync};
 use std::process::Abort;
+use std::random::RandomSource;
 use std::sync::Wait;
 use std::test::Fail;
 use std::thread::Threads;
@@ -128,7 +129,7 @@ pub fn make_plan(rt: &impl Abort, alloc: Global, query: &str) -> Plan {
 
 /// The answer of a run by one of the calls.
 fn answer<R: Read + Drop + Send, O: Write, E: Write>(
-    rt: &(impl Threads + Wait + Sync),
+    rt: &(impl Threads + Wait + RandomSource + Sync),
     alloc: Global,
     (by, options): (By, Options),
     plan: &Plan,
@@ -144,7 +145,7 @@ fn answer<R: Read + Drop + Send, O: Write, E: Write>(
 
 /// Asserts that a run of a case over a reader is done, and what it has written.
 pub fn assert_done(
-    rt: &(impl Abort + Threads + Wait + Sync),
+    rt: &(impl Abort + Threads + Wait + RandomSource + Sync),
     alloc: Global,
     asked: (By, Options),
     (plan, case): (&Plan, &Case<'_>),
@@ -180,7 +181,7 @@ const SIZES: [(usize, usize); 5] = [
 /// Asserts that a case is done by each call, in pieces of each size. A read that gives no byte is the end: what the
 /// reader would give behind it is not read.
 fn assert_done_by_all(
-    rt: &(impl Abort + Threads + Wait + Sync),
+    rt: &(impl Abort + Threads + Wait + RandomSource + Sync),
     alloc: Global,
     (plan, case): (&Plan, &Case<'_>),
 ) {
@@ -209,7 +210,7 @@ fn slow_readers(rt: HostRuntime) {
 
 /// Asserts that nothing is written where a read fails behind some bytes, though the next would not.
 fn assert_not_read(
-    rt: &(impl Abort + Threads + Wait + Sync),
+    rt: &(impl Abort + Threads + Wait + RandomSource + Sync),
     alloc: Global,
     by: By,
     (plan, case): (&Plan, &Case<'_>),
@@ -233,7 +234,7 @@ fn assert_not_read(
 
 /// Asserts so of each read in turn, the one that would give the end among them.
 fn assert_none_read(
-    rt: &(impl Abort + Threads + Wait + Sync),
+    rt: &(impl Abort + Threads + Wait + RandomSource + Sync),
     alloc: Global,
     (by, kind): (By, ErrorKind),
     (plan, case): (&Plan, &Case<'_>),
@@ -272,7 +273,7 @@ fn sink(alloc: Global, room: usize, pause: Pause) -> Sink {
 
 /// Asserts that a run whose report is not written leaves a beginning of it, and nothing of the list.
 fn assert_report_cut(
-    rt: &(impl Abort + Threads + Wait + Sync),
+    rt: &(impl Abort + Threads + Wait + RandomSource + Sync),
     alloc: Global,
     by: By,
     (plan, case): (&Plan, &Case<'_>),
@@ -290,7 +291,7 @@ fn assert_report_cut(
 
 /// Asserts that a run whose list is not written leaves the report, and a beginning of the list.
 fn assert_list_cut(
-    rt: &(impl Abort + Threads + Wait + Sync),
+    rt: &(impl Abort + Threads + Wait + RandomSource + Sync),
     alloc: Global,
     by: By,
     (plan, case): (&Plan, &Case<'_>),
@@ -315,7 +316,7 @@ const PAUSES: [Pause; 3] = [
 
 /// Asserts so of each write in turn, though the next would not fail, and behind all of them of the flush.
 fn assert_each_cut(
-    rt: &(impl Abort + Threads + Wait + Sync),
+    rt: &(impl Abort + Threads + Wait + RandomSource + Sync),
     alloc: Global,
     (by, pause): (By, Pause),
     (plan, case): (&Plan, &Case<'_>),
@@ -343,7 +344,7 @@ fn writers_that_fail(rt: HostRuntime) {
 
 /// Asserts that more lines are refused than the options allow, and that nothing is written.
 pub fn assert_too_many(
-    rt: &(impl Abort + Threads + Wait + Sync),
+    rt: &(impl Abort + Threads + Wait + RandomSource + Sync),
     alloc: Global,
     (by, options): (By, Options),
     plan: &Plan,
@@ -361,7 +362,7 @@ pub fn assert_too_many(
 
 /// Asserts that the limit decides alone: again and again, since schedules differ.
 fn assert_limited(
-    rt: &(impl Abort + Threads + Wait + Sync),
+    rt: &(impl Abort + Threads + Wait + RandomSource + Sync),
     alloc: Global,
     (by, piece): (By, usize),
     plan: &Plan,
@@ -417,7 +418,7 @@ pub fn is_refusal(by: By, fault: RunFault) -> bool {
 /// Where memory is refused the answer says so and nothing is written, else the report is. It takes no memory but the
 /// run's.
 fn assert_answered(
-    rt: &(impl Abort + Threads + Wait + Sync),
+    rt: &(impl Abort + Threads + Wait + RandomSource + Sync),
     alloc: Global,
     (by, options): (By, Options),
     (plan, case): (&Plan, &Case<'_>),
@@ -441,7 +442,7 @@ fn assert_answered(
 
 /// Asserts so of a run that is given a plan, where there is memory for one.
 pub fn assert_run_or_refused(
-    rt: &(impl Abort + Threads + Wait + Sync),
+    rt: &(impl Abort + Threads + Wait + RandomSource + Sync),
     alloc: Global,
     asked: (By, Options),
     case: &Case<'_>,

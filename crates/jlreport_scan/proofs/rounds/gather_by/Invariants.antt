@@ -1,7 +1,7 @@
 use Rattle.std.proofs.Common.{◌-◌}
 use Rattle.jlreport_scan.specs.Pieces.{StandsForRounds}
 use Rattle.jlreport_scan.specs.Gathered.{limit_number}
-use Rattle.jlreport_scan.proofs.rounds.gather_alone.Given as goal
+use Rattle.jlreport_scan.proofs.rounds.gather_by.Given as goal
 
 -- the result stands for all rounds so far
 abbrev pub invariant-loop-whole : goal.invariant-loop-whole

@@ -6,7 +6,7 @@ use Rattle.jlreport_scan.specs.Gathered.{limit_number}
 use Rattle.jlreport_scan.specs.Faults.{Refuses, Stops}
 use Rattle.jlreport_scan.specs.declared.fault.GatherFault.{GatherFault}
 use Rattle.jlreport_scan.proofs.Gathered.{behind-as_one, few-behind, gather-fault, next-behind, no-more, no-round, refused-behind, round-stops}
-use Rattle.jlreport_scan.proofs.rounds.gather_alone.Goals as goal
+use Rattle.jlreport_scan.proofs.rounds.gather_by.Goals as goal
 
 pub loop-whole-init : goal.loop-whole-init
 loop-whole-init g c =

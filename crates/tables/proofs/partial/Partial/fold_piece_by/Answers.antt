@@ -13,7 +13,7 @@ use Rattle.tables.proofs.Growing.{lines-more, notes-more, records-more, refused-
 use Rattle.tables.proofs.Merging.{one-note}
 use Rattle.tables.proofs.Reading.{length-valid_of, length-kept, length-lines, length-refused_of}
 use Rattle.tables.proofs.Sound.{table-counted}
-use Rattle.tables.proofs.partial.Partial.fold_piece.Goals as goal
+use Rattle.tables.proofs.partial.Partial.fold_piece_by.Goals as goal
 
 pub read_onto-requires : goal.read_onto-requires
 read_onto-requires c = ∣ record {

@@ -1,0 +1,23 @@
+use Rattle.std.proofs.Common.{◌≡◌, [], Bool, List, map, ap, subst, ◌∙◌}
+use Rattle.std.proofs.lemmas.Result.{IfOk-weaker}
+use Rattle.semantics.specs.Aggregates.{AggregateFunction}
+use Rattle.tables_groups.specs.Functions.{aggregate_of}
+use Rattle.tables_groups.specs.Inside.Table.{Contents, IsTableOf}
+use Rattle.semantics.specs.Groups.{Row}
+use Rattle.semantics.specs.Sets.{grouping_places}
+use Rattle.semantics.specs.Found.{aggregate_functions}
+use Rattle.tables.specs.Functions.{filter_tests}
+use Rattle.tables.proofs.Bound.{bound-functions}
+use Rattle.tables.proofs.folding.piece_table.Goals as goal
+
+pub returns : goal.returns
+returns g c =
+    let fields = c.args.plan.now.fields in
+    let q = c.args.plan.now.query in
+    let fs = aggregate_functions fields q in
+    let filters = filter_tests fields q in
+    let bound_are : map (aggregate_of filters) c.set_functions.result.now ≡ fs = ap (map (aggregate_of filters)) c.set_functions.ensures.functions ∙ bound-functions fields q in
+    IfOk-weaker c.piece_table.result (λ (t : Contents). (filters : List (Row → Bool)) → IsTableOf c.grouping.result.now (map (aggregate_of filters) c.set_functions.result.now) t []) (λ (t : Contents). IsTableOf (grouping_places fields q) fs t [])
+    (λ t held. subst (λ (gs : List AggregateFunction). IsTableOf (grouping_places fields q) gs t []) bound_are
+    (subst (λ set. IsTableOf set (map (aggregate_of filters) c.set_functions.result.now) t []) c.grouping.ensures.grouping (held filters)))
+    c.piece_table.ensures.empty
