@@ -1,33 +1,35 @@
 -- Keys of ORDER BY that are left out of the codes.
-use Rattle.std.proofs.Common.{◌≡◌, ◌≢◌, ◌∙◌, ◌+◌, ◌-◌, ◌<◌, ◌==◌, ℕ, zero, suc, Bool, true, false, ◌&&◌, not, List, [], ◌∷◌, drop, length, map, get_or, slice_index_or, take, refl, sym, ap, take_all, arith, ⊎_elim}
-use Rattle.std.specs.Global.{Vec}
+use Rattle.std.proofs.Common.{◌≡◌, ◌≢◌, ◌∙◌, ◌+◌, ◌-◌, ◌<◌, ◌++◌, ◌==◌, ℕ, zero, suc, Bool, true, false, ◌&&◌, ◌||◌, cond, not, List, [], ◌∷◌, drop, length, map, get_or, slice_index_or, take, refl, sym, ap, take_all, arith, ⊎_elim}
 use Rattle.std.specs.List.{AllByRecursion}
 use Rattle.std.specs.declared.cmp.Ordering.{Ordering}
 use Rattle.std.specs.declared.cmp.Ordering.TheVariants.{Less, Equal, Greater}
-use Rattle.std.specs.Ordering.{nat_cmp, ordering_then}
+use Rattle.std.specs.Cmp.{Equal-is, tied_itself}
+use Rattle.std.specs.Ordering.{nat_cmp, ordering_reverse, ordering_then}
 use Rattle.std.specs.Cmp.Lexicographic.{slice_cmp}
 use Rattle.std.proofs.lemmas.Bool.Decides.{nat_tests}
-use Rattle.std.proofs.lemmas.List.{drop-map, length-drop, length-map}
+use Rattle.std.proofs.lemmas.List.{drop-map, length-drop, map_more}
 use Rattle.std.proofs.lemmas.Bool.{cases_eq}
 use Rattle.query_ast.specs.Syntax.{key_form}
 use Rattle.query_ast.specs.declared.tree.Key.{Key}
+use Rattle.values.specs.Datum.{datum_of}
 use Rattle.semantics.specs.Values.{Datum, boolean, whole, text, null, value_order}
 use Rattle.semantics.specs.Columns.{Field}
 use Rattle.semantics.specs.Syntax.{KeyForm, TreeForm}
 use Rattle.semantics.specs.Sets.{sets_of}
 use Rattle.semantics.specs.Found.{Found}
-use Rattle.semantics.specs.Rows.{cell_value, expression_shown}
 use Rattle.semantics.specs.Types.{key_expression}
 use Rattle.semantics.specs.Order.{key_value, null_order, under_key, under_keys}
 use Rattle.query_plan.specs.Planned.{PlannedQuery}
+use Rattle.tables_groups.proofs.Order.{value_antisymmetric}
+use Rattle.report_rows.specs.declared.coded_key.CodedKey.{CodedKey}
 use Rattle.report_rows.specs.declared.source.Source.{Source}
 use Rattle.report_rows.specs.declared.source.Source.TheVariants.{KeyAt, CellAt, Always}
-use Rattle.report_rows.specs.Sources.{AreKeySources, AreSourcesFor, key_expressions, shown_at, sources_at}
-use Rattle.report_rows.specs.Inside.SortEntries.{AreEnough, HasKeyOf, are_default_behind, are_default_from, is_default_at, is_key_at}
-use Rattle.report_rows.proofs.Maps.{map-twice}
+use Rattle.report_rows.specs.Sources.{AreSourcesBySet}
+use Rattle.report_rows.specs.Inside.SortEntries.{AreEnough, AreTelling, CodedForm, are_default_behind, are_default_from, are_same_sources, coded_form, coded_value, is_default_at, is_first_at, is_key_at, is_repeated, is_same_source, under_coded, value_there, with_key}
 use Rattle.report_rows.proofs.RowCodes.{by_key, under_values}
-use Rattle.report_rows.proofs.Rows.{later, same-length, same-order}
-use Rattle.report_rows.proofs.Sources.{each-at, key-sources-count, values-keys}
+use Rattle.report_rows.proofs.Rows.{by_columns, later, same-length, same-order}
+use Rattle.report_rows.proofs.Sources.{value-by-set}
+use Rattle.report_rows.proofs.Totals.{under_key-total}
 
 -- ---- tests that hold
 
@@ -45,6 +47,152 @@ not-holds false e = refl
 
 at-place : (place at : ℕ) → (at == place) ≡ true → at ≡ place
 at-place place at e = grind (arith, nat_tests)
+
+-- ---- two orders in a row
+
+then-again : (a b c : Ordering) → ordering_then a (ordering_then b c) ≡ ordering_then (ordering_then a b) c
+then-again Less b c = refl
+then-again Equal b c = refl
+then-again Greater b c = refl
+
+then-equal : (o : Ordering) → ordering_then o Equal ≡ o
+then-equal Less = refl
+then-equal Equal = refl
+then-equal Greater = refl
+
+-- ---- values that tie under a key
+
+null-apart : (nulls_first : Bool) → null_order nulls_first ≢ Equal
+null-apart true e = absurd cc
+null-apart false e = absurd cc
+
+null-apart-back : (nulls_first : Bool) → ordering_reverse (null_order nulls_first) ≢ Equal
+null-apart-back true e = absurd cc
+null-apart-back false e = absurd cc
+
+level : (descending : Bool) (o : Ordering) → cond descending (ordering_reverse o) o ≡ Equal → o ≡ Equal
+level true Less e = absurd cc
+level true Equal e = refl
+level true Greater e = absurd cc
+level false o e = e
+
+-- they are the same
+tied-values : (k : KeyForm) (a b : Datum) → under_key k a b ≡ Equal → a ≡ b
+tied-values k null null e = refl
+tied-values k null (boolean b) e = absurd (null-apart k.nulls_first e)
+tied-values k null (whole n) e = absurd (null-apart k.nulls_first e)
+tied-values k null (text s) e = absurd (null-apart k.nulls_first e)
+tied-values k (boolean a) null e = absurd (null-apart-back k.nulls_first e)
+tied-values k (boolean a) (boolean b) e = value_antisymmetric (boolean a) (boolean b) (level k.descending (value_order (boolean a) (boolean b)) e)
+tied-values k (boolean a) (whole n) e = value_antisymmetric (boolean a) (whole n) (level k.descending (value_order (boolean a) (whole n)) e)
+tied-values k (boolean a) (text s) e = value_antisymmetric (boolean a) (text s) (level k.descending (value_order (boolean a) (text s)) e)
+tied-values k (whole m) null e = absurd (null-apart-back k.nulls_first e)
+tied-values k (whole m) (boolean b) e = value_antisymmetric (whole m) (boolean b) (level k.descending (value_order (whole m) (boolean b)) e)
+tied-values k (whole m) (whole n) e = value_antisymmetric (whole m) (whole n) (level k.descending (value_order (whole m) (whole n)) e)
+tied-values k (whole m) (text s) e = value_antisymmetric (whole m) (text s) (level k.descending (value_order (whole m) (text s)) e)
+tied-values k (text r) null e = absurd (null-apart-back k.nulls_first e)
+tied-values k (text r) (boolean b) e = value_antisymmetric (text r) (boolean b) (level k.descending (value_order (text r) (boolean b)) e)
+tied-values k (text r) (whole n) e = value_antisymmetric (text r) (whole n) (level k.descending (value_order (text r) (whole n)) e)
+tied-values k (text r) (text s) e = value_antisymmetric (text r) (text s) (level k.descending (value_order (text r) (text s)) e)
+
+-- ---- keys that have the values of an earlier one
+
+same-there : (x : Found) (a b : Source) → is_same_source a b ≡ true → value_there x a ≡ value_there x b
+same-there x (KeyAt place) (KeyAt at) e = ap (λ (p : ℕ). slice_index_or x.1.key p null) (sym (at-place place at e))
+same-there x (KeyAt place) (CellAt at) e = absurd cc
+same-there x (KeyAt place) (Always value) e = absurd cc
+same-there x (CellAt place) (KeyAt at) e = absurd cc
+same-there x (CellAt place) (CellAt at) e = ap (λ (p : ℕ). value_there x (CellAt p)) (sym (at-place place at e))
+same-there x (CellAt place) (Always value) e = absurd cc
+same-there x (Always value) (KeyAt at) e = absurd cc
+same-there x (Always value) (CellAt at) e = absurd cc
+same-there x (Always value) (Always other) e = value_antisymmetric (datum_of value) (datum_of other) ((Equal-is (value_order (datum_of value) (datum_of other))).0 e)
+
+all-there : (x : Found) (first second : List Source) → are_same_sources first second ≡ true → map (value_there x) first ≡ map (value_there x) second
+all-there x [] [] e = refl
+all-there x [] (b ∷ others) e = absurd cc
+all-there x (a ∷ more) [] e = absurd cc
+all-there x (a ∷ more) (b ∷ others) e =
+    let here = same-there x a b (first-holds (is_same_source a b) (are_same_sources more others) e) in
+    let rest = all-there x more others (second-holds (is_same_source a b) (are_same_sources more others) e) in
+    λ i. here i ∷ rest i
+
+none-both : (a : Bool) → (a && false) ≡ false
+none-both true = refl
+none-both false = refl
+
+-- lists that are not equally long are not the same
+pub not-same : (first second : List Source) → length first ≢ length second → are_same_sources first second ≡ false
+not-same [] [] other = absurd (other refl)
+not-same [] (b ∷ others) other = refl
+not-same (a ∷ more) [] other = refl
+not-same (a ∷ more) (b ∷ others) other =
+    ap (λ (t : Bool). is_same_source a b && t) (not-same more others (λ (e : length more ≡ length others). other (ap suc e))) ∙ none-both (is_same_source a b)
+
+-- one more key tells nothing where it has the values of another
+told-by : (cs : List CodedForm) (c : CodedForm) (x y : Found) → is_repeated cs c.1 ≡ true
+    → ordering_then (under_coded cs x y) (under_key c.0 (coded_value x c) (coded_value y c)) ≡ under_coded cs x y
+told-by [] c x y e = absurd cc
+told-by (b ∷ cs) c x y e =
+    let here = under_key b.0 (coded_value x b) (coded_value y b) in
+    let rest = under_coded cs x y in
+    let last = under_key c.0 (coded_value x c) (coded_value y c) in
+    let value : (z : Found) → are_same_sources b.1 c.1 ≡ true → coded_value z b ≡ coded_value z c = λ z same. ap (λ (vs : List Datum). slice_index_or vs z.0 null) (all-there z b.1 c.1 same) in
+    let nothing : here ≡ Equal → are_same_sources b.1 c.1 ≡ true → last ≡ Equal =
+    λ tied same.
+    ap (under_key c.0 (coded_value x c)) (sym (value y same) ∙ sym (tied-values b.0 (coded_value x b) (coded_value y b) tied) ∙ value x same)
+    ∙ tied_itself (under_key-total c.0) (coded_value x c) in
+    elim here as (λ (o : Ordering). here ≡ o → ordering_then (ordering_then o rest) last ≡ ordering_then o rest) [
+      | Less ↦ λ _. refl
+      | Equal ↦ λ tied.
+          elim (are_same_sources b.1 c.1) as (λ (t : Bool). are_same_sources b.1 c.1 ≡ t → (t || is_repeated cs c.1) ≡ true → ordering_then rest last ≡ rest) [
+            | true ↦ λ same _. ap (ordering_then rest) (nothing tied same) ∙ then-equal rest
+            | false ↦ λ _ later. told-by cs c x y later
+          ] refl e
+      | Greater ↦ λ _. refl
+    ] refl
+
+coded-more : (cs : List CodedForm) (c : CodedForm) (x y : Found) → under_coded (cs ++ c ∷ []) x y ≡ ordering_then (under_coded cs x y) (under_key c.0 (coded_value x c) (coded_value y c))
+coded-more [] c x y = then-equal (under_key c.0 (coded_value x c) (coded_value y c))
+coded-more (b ∷ cs) c x y =
+    let here = under_key b.0 (coded_value x b) (coded_value y b) in
+    ap (ordering_then here) (coded-more cs c x y) ∙ then-again here (under_coded cs x y) (under_key c.0 (coded_value x c) (coded_value y c))
+
+keys-more : (fields : List Field) (t : TreeForm) (ks : List KeyForm) (k : KeyForm) (x y : Found)
+    → under_keys fields t (ks ++ k ∷ []) x y ≡ ordering_then (under_keys fields t ks x y) (under_key k (key_value fields t x k) (key_value fields t y k))
+keys-more fields t [] k x y = then-equal (under_key k (key_value fields t x k) (key_value fields t y k))
+keys-more fields t (j ∷ ks) k x y =
+    let here = under_key j (key_value fields t x j) (key_value fields t y j) in
+    ap (ordering_then here) (keys-more fields t ks k x y) ∙ then-again here (under_keys fields t ks x y) (under_key k (key_value fields t x k) (key_value fields t y k))
+
+-- so a key that is left out where it has the values of another tells what it tells behind the others
+with-key-tells : (cs : List CodedForm) (c : CodedForm) (x y : Found) → under_coded (with_key cs c) x y ≡ ordering_then (under_coded cs x y) (under_key c.0 (coded_value x c) (coded_value y c))
+with-key-tells cs c x y =
+    elim (is_repeated cs c.1) as (λ (t : Bool). is_repeated cs c.1 ≡ t → under_coded (cond t cs (cs ++ c ∷ [])) x y ≡ ordering_then (under_coded cs x y) (under_key c.0 (coded_value x c) (coded_value y c))) [
+      | true ↦ λ e. sym (told-by cs c x y e)
+      | false ↦ λ _. coded-more cs c x y
+    ] refl
+
+-- one key of ORDER BY more
+pub telling-more : (plan : PlannedQuery) (keys : List Key) (i : ℕ) (key : Key) (kept new : List CodedForm) (sources : List Source) → i < length keys → key ≡ get_or keys i key → new ≡ with_key kept (key_form key, sources)
+    → AreSourcesBySet plan (key_expression plan.query.items (key_form key).expression) (sets_of plan.fields plan.query) sources
+    → AreTelling kept (map key_form (take i keys)) plan.fields plan.query → AreTelling new (map key_form (take (i + 1) keys)) plan.fields plan.query
+telling-more plan keys i key kept new sources within is made each told x y at_x at_y =
+    let fields = plan.fields in
+    let t = plan.query in
+    let k = key_form key in
+    let value : (z : Found) → z.0 < length (sets_of fields t) → coded_value z (k, sources) ≡ key_value fields t z k = λ z at. value-by-set plan k sources z each at in
+    let keys_are : map key_form (take (i + 1) keys) ≡ map key_form (take i keys) ++ k ∷ [] =
+    map_more key_form keys i key within ∙ (λ j. map key_form (take i keys) ++ key_form (sym is j) ∷ []) in
+    ap (λ (cs : List CodedForm). under_coded cs x y) made
+    ∙ with-key-tells kept (k, sources) x y
+    ∙ (λ j. ordering_then (told x y at_x at_y j) (under_key k (value x at_x j) (value y at_y j)))
+    ∙ sym (keys-more fields t (map key_form (take i keys)) k x y)
+    ∙ ap (λ (ks : List KeyForm). under_keys fields t ks x y) (sym keys_are)
+
+-- keys that tell what all keys of ORDER BY tell are enough
+pub enough-telling : (cs : List CodedForm) (fields : List Field) (t : TreeForm) → AreTelling cs t.keys fields t → AreEnough cs fields t
+enough-telling cs fields t told x y fx fy = ap (λ (o : Ordering). ordering_then o (by_columns fields t x y)) (told x y fx.0 fy.0)
 
 -- ---- default keys
 
@@ -92,118 +240,73 @@ tell-nothing (k ∷ ks) all (x ∷ xs) (y ∷ ys) long =
 
 -- ---- keys that are those of a group's key
 
-are-default : (place : ℕ) (ks : List KeyForm) (sources : List Source) → are_default_from place ks sources ≡ true → AllByRecursion IsDefault ks
-are-default place [] sources e = tt
-are-default place (k ∷ ks) [] e = absurd cc
-are-default place (k ∷ ks) (source ∷ sources) e =
-    let here = first-holds (is_default_at place k source) (are_default_from (suc place) ks sources) e in
-    let later = second-holds (not k.descending) (not k.nulls_first && is_key_at place source) here in (
+are-default : (place : ℕ) (cs : List CodedForm) → are_default_from place cs ≡ true → AllByRecursion IsDefault (map (λ c. c.0) cs)
+are-default place [] e = tt
+are-default place (c ∷ cs) e =
+    let here = first-holds (is_default_at place c) (are_default_from (suc place) cs) e in
+    let later = second-holds (not c.0.descending) (not c.0.nulls_first && is_first_at place c.1) here in (
       (
-        not-holds k.descending (first-holds (not k.descending) (not k.nulls_first && is_key_at place source) here),
-        not-holds k.nulls_first (first-holds (not k.nulls_first) (is_key_at place source) later),
+        not-holds c.0.descending (first-holds (not c.0.descending) (not c.0.nulls_first && is_first_at place c.1) here),
+        not-holds c.0.nulls_first (first-holds (not c.0.nulls_first) (is_first_at place c.1) later),
       ),
-      are-default (suc place) ks sources (second-holds (is_default_at place k source) (are_default_from (suc place) ks sources) e),
+      are-default (suc place) cs (second-holds (is_default_at place c) (are_default_from (suc place) cs) e),
     )
-
--- the value that a row has at a source
-abbrev value_there : Found → Source → Datum
-value_there x source = cell_value (shown_at x.1.key x.1.cells source)
 
 key-at : (x : Found) (place : ℕ) (source : Source) → is_key_at place source ≡ true → value_there x source ≡ slice_index_or x.1.key place null
 key-at x place (KeyAt at) e = ap (λ (p : ℕ). slice_index_or x.1.key p null) (at-place place at e)
 key-at x place (CellAt at) e = absurd cc
 key-at x place (Always value) e = absurd cc
 
-first-same : {X : Type 0} (x y : X) (xs ys : List X) → x ∷ xs ≡ y ∷ ys → x ≡ y
-first-same x y xs ys e = cc
+-- a row of the first grouping set has its value at the first source
+first-at : (x : Found) → x.0 ≡ 0 → (place : ℕ) (sources : List Source) → is_first_at place sources ≡ true → slice_index_or (map (value_there x) sources) x.0 null ≡ slice_index_or x.1.key place null
+first-at x first place [] e = absurd cc
+first-at x first place (source ∷ sources) e = ap (λ (n : ℕ). slice_index_or (map (value_there x) (source ∷ sources)) n null) first ∙ key-at x place source e
 
-rest-same : {X : Type 0} (x y : X) (xs ys : List X) → x ∷ xs ≡ y ∷ ys → xs ≡ ys
-rest-same x y xs ys e = cc
-
--- under such keys rows stand as by the first values of the keys of their groups
-under-first : (fields : List Field) (t : TreeForm) (x y : Found) (place : ℕ) (ks : List KeyForm) (sources : List Source) → are_default_from place ks sources ≡ true
-    → map (value_there x) sources ≡ map (key_value fields t x) ks → map (value_there y) sources ≡ map (key_value fields t y) ks
-    → under_keys fields t ks x y ≡ under_values place ks x.1.key y.1.key
-under-first fields t x y place [] sources e at_x at_y = refl
-under-first fields t x y place (k ∷ ks) [] e at_x at_y = absurd cc
-under-first fields t x y place (k ∷ ks) (source ∷ sources) e at_x at_y =
-    let here = first-holds (is_default_at place k source) (are_default_from (suc place) ks sources) e in
-    let later = second-holds (is_default_at place k source) (are_default_from (suc place) ks sources) e in
-    let is_at = second-holds (not k.nulls_first) (is_key_at place source) (second-holds (not k.descending) (not k.nulls_first && is_key_at place source) here) in
-    let value : (z : Found) → map (value_there z) (source ∷ sources) ≡ map (key_value fields t z) (k ∷ ks) → key_value fields t z k ≡ slice_index_or z.1.key place null =
-    λ z at_z. sym (first-same (value_there z source) (key_value fields t z k) (map (value_there z) sources) (map (key_value fields t z) ks) at_z) ∙ key-at z place source is_at in
-    let others : (z : Found) → map (value_there z) (source ∷ sources) ≡ map (key_value fields t z) (k ∷ ks) → map (value_there z) sources ≡ map (key_value fields t z) ks =
-    λ z at_z. rest-same (value_there z source) (key_value fields t z k) (map (value_there z) sources) (map (key_value fields t z) ks) at_z in
-    let value_x = value x at_x in
-    let value_y = value y at_y in
-    let rest = under-first fields t x y (suc place) ks sources later (others x at_x) (others y at_y) in
-    λ i. ordering_then (under_key k (value_x i) (value_y i)) (rest i)
+-- under such keys rows of the first grouping set stand as by the first values of the keys of their groups
+under-first : (x y : Found) → x.0 ≡ 0 → y.0 ≡ 0 → (place : ℕ) (cs : List CodedForm) → are_default_from place cs ≡ true → under_coded cs x y ≡ under_values place (map (λ c. c.0) cs) x.1.key y.1.key
+under-first x y first_x first_y place [] e = refl
+under-first x y first_x first_y place (c ∷ cs) e =
+    let here = first-holds (is_default_at place c) (are_default_from (suc place) cs) e in
+    let later = second-holds (is_default_at place c) (are_default_from (suc place) cs) e in
+    let is_at = second-holds (not c.0.nulls_first) (is_first_at place c.1) (second-holds (not c.0.descending) (not c.0.nulls_first && is_first_at place c.1) here) in
+    let value_x = first-at x first_x place c.1 is_at in
+    let value_y = first-at y first_y place c.1 is_at in
+    let rest = under-first x y first_x first_y (suc place) cs later in
+    λ i. ordering_then (under_key c.0 (value_x i) (value_y i)) (rest i)
 
 -- ---- what is left of the keys
 
-then-again : (a b c : Ordering) → ordering_then a (ordering_then b c) ≡ ordering_then (ordering_then a b) c
-then-again Less b c = refl
-then-again Equal b c = refl
-then-again Greater b c = refl
-
 -- under keys rows stand as under the first of them, and then under those behind
-parted : (fields : List Field) (t : TreeForm) (x y : Found) (count : ℕ) (ks : List KeyForm) → under_keys fields t ks x y ≡ ordering_then (under_keys fields t (take count ks) x y) (under_keys fields t (drop count ks) x y)
-parted fields t x y zero ks = refl
-parted fields t x y (suc count) [] = refl
-parted fields t x y (suc count) (k ∷ ks) =
-    let here = under_key k (key_value fields t x k) (key_value fields t y k) in
-    ap (ordering_then here) (parted fields t x y count ks)
-    ∙ then-again here (under_keys fields t (take count ks) x y) (under_keys fields t (drop count ks) x y)
-
--- the values that a row of the first grouping set has at the sources behind so many are those of the keys behind as many
-values-behind : (plan : PlannedQuery) (all : List (Vec Source)) (count : ℕ) (x : Found) → AreKeySources plan all → HasKeyOf plan.fields plan.query x → x.0 ≡ 0
-    → map (value_there x) (drop count (sources_at all 0)) ≡ map (key_value plan.fields plan.query x) (drop count plan.query.keys)
-values-behind plan all count x each fit first =
-    let value = key_value plan.fields plan.query x in
-    let shown = shown_at x.1.key x.1.cells in
-    sym (drop-map (value_there x) count (sources_at all 0))
-    ∙ ap (drop count) (sym (map-twice cell_value shown (sources_at all 0)) ∙ ap (λ (n : ℕ). map cell_value (map shown (sources_at all n))) (sym first) ∙ values-keys plan all x each fit.0)
-    ∙ drop-map value count plan.query.keys
-
--- with one grouping set there are as many sources as keys
-pub sources-long : (plan : PlannedQuery) (all : List (Vec Source)) → AreKeySources plan all → length all ≡ 1 → length (sources_at all 0) ≡ length plan.query.keys
-sources-long plan all each single =
-    let sets = sets_of plan.fields plan.query in
-    let sets_are = key-sources-count plan all each in
-    let one : length sets ≡ 1 = omega (arith, single, sets_are) in
-    let set = get_or sets 0 [] in
-    let shown = expression_shown plan.fields plan.query set [] [] in
-    sym (length-map (sources_at all 0) (shown_at [] []))
-    ∙ ap length (each-at (AreSourcesFor plan (key_expressions plan)) sets all 0 (omega (arith, one)) each [] [])
-    ∙ length-map (key_expressions plan) shown
-    ∙ length-map plan.query.keys (λ (k : KeyForm). key_expression plan.query.items k.expression)
+parted : (x y : Found) (count : ℕ) (cs : List CodedForm) → under_coded cs x y ≡ ordering_then (under_coded (take count cs) x y) (under_coded (drop count cs) x y)
+parted x y zero cs = refl
+parted x y (suc count) [] = refl
+parted x y (suc count) (c ∷ cs) =
+    let here = under_key c.0 (coded_value x c) (coded_value y c) in
+    ap (ordering_then here) (parted x y count cs)
+    ∙ then-again here (under_coded (take count cs) x y) (under_coded (drop count cs) x y)
 
 -- with one grouping set the keys in front of those that begin the default order are enough
-pub enough-keys : (plan : PlannedQuery) (all : List (Vec Source)) (count : ℕ) → AreKeySources plan all → length all ≡ 1
-    → are_default_behind count plan.query.keys (sources_at all 0) ≡ true → AreEnough count plan.fields plan.query
-enough-keys plan all count each single e x y fx fy =
-    let fields = plan.fields in
-    let t = plan.query in
-    let sets_are = key-sources-count plan all each in
-    let first = under_keys fields t (take count t.keys) x y in
-    let behind = drop count t.keys in
-    let sources = drop count (sources_at all 0) in
+pub enough-in-front : (cs : List CodedForm) (fields : List Field) (t : TreeForm) (count : ℕ) → AreTelling cs t.keys fields t → length (sets_of fields t) ≡ 1 → are_default_behind count cs ≡ true → AreEnough (take count cs) fields t
+enough-in-front cs fields t count told single e x y fx fy =
+    let first = under_coded (take count cs) x y in
+    let behind = drop count cs in
+    let ks = map (λ (c : CodedForm). c.0) behind in
     let within_x = fx.0 in
     let within_y = fy.0 in
-    let at_x : x.0 ≡ 0 = omega (arith, within_x, single, sets_are) in
-    let at_y : y.0 ≡ 0 = omega (arith, within_y, single, sets_are) in
+    let at_x : x.0 ≡ 0 = omega (arith, within_x, single) in
+    let at_y : y.0 ≡ 0 = omega (arith, within_y, single) in
     let tied : nat_cmp x.0 y.0 ≡ Equal = λ i. nat_cmp (at_x i) (at_y i) in
     let keys = slice_cmp value_order x.1.key y.1.key in
     let by_keys : by_key x y ≡ keys = λ i. ordering_then (tied i) keys in
-    let said = under-first fields t x y 0 behind sources e (values-behind plan all count x each fx at_x) (values-behind plan all count y each fy at_y) in
-    let nothing : ordering_then (under_keys fields t behind x y) (by_key x y) ≡ by_key x y =
+    let said = under-first x y at_x at_y 0 behind e in
+    let nothing : ordering_then (under_coded behind x y) (by_key x y) ≡ by_key x y =
     (λ i. ordering_then (said i) (by_keys i))
-    ∙ tell-nothing behind (are-default 0 behind sources e) x.1.key y.1.key (same-length fields t x y fx fy (at_x ∙ sym at_y))
+    ∙ tell-nothing ks (are-default 0 behind e) x.1.key y.1.key (same-length fields t x y fx fy (at_x ∙ sym at_y))
     ∙ sym by_keys in
     let order = same-order fields t x y fx fy in
     ap (ordering_then first) (order ∙ sym nothing)
-    ∙ then-again first (under_keys fields t behind x y) (by_key x y)
-    ∙ (λ i. ordering_then (sym (parted fields t x y count t.keys) i) (sym order i))
+    ∙ then-again first (under_coded behind x y) (by_key x y)
+    ∙ (λ i. ordering_then ((sym (parted x y count cs) ∙ told x y within_x within_y) i) (sym order i))
 
 -- ---- the loop
 
@@ -211,11 +314,8 @@ behind-all : {X : Type 0} (count : ℕ) (xs : List X) → take (length xs - coun
 behind-all count xs = let left = length-drop count xs in take_all (length xs - count) (drop count xs) (omega (arith, left))
 
 -- the keys of the code behind so many
-pub keys-behind : (keys : List Key) (sources : List Source) (count : ℕ)
-    → are_default_from 0 (map key_form (take (length keys - count) (drop count keys))) (take (length sources - count) (drop count sources)) ≡ are_default_behind count (map key_form keys) sources
-keys-behind keys sources count =
-    let forms = ap (map key_form) (behind-all count keys) ∙ sym (drop-map key_form count keys) in
-    λ i. are_default_from 0 (forms i) (behind-all count sources i)
+pub keys-behind : (keys : List CodedKey) (count : ℕ) → are_default_from 0 (map coded_form (take (length keys - count) (drop count keys))) ≡ are_default_behind count (map coded_form keys)
+keys-behind keys count = ap (are_default_from 0) (ap (map coded_form) (behind-all count keys) ∙ sym (drop-map coded_form count keys))
 
 -- what holds for no number below holds for none up to one for which it does not hold either
 pub none-more : (test : ℕ → Bool) (count : ℕ) → ((n : ℕ) → n < count → test n ≡ false) → test count ≡ false → (n : ℕ) → n < count + 1 → test n ≡ false

@@ -12,9 +12,7 @@ use Rattle.std.proofs.lemmas.List.{drop-drop, length-drop, map-append, take-appe
 use Rattle.std.proofs.lemmas.List.Sorted.{IsPermutation-append, IsPermutation-refl}
 use Rattle.semantics.specs.Found.{Found}
 use Rattle.report_rows.specs.Parts.{AreMade, AreOfParts, items_of}
-use Rattle.report_rows.specs.Inside.SortEntries.{AreEntriesOf, AreEntriesOfParts, EntryForm, IsCodableAt, entry_at, entry_form}
-use Rattle.semantics.specs.Syntax.{KeyForm}
-use Rattle.report_rows.specs.declared.source.Source.{Source}
+use Rattle.report_rows.specs.Inside.SortEntries.{AreEntriesOf, AreEntriesOfParts, CodedForm, EntryForm, IsCodableRow, entry_at, entry_form}
 use Rattle.std.specs.List.{AllByRecursion}
 use Rattle.report_rows.specs.declared.sort_entry.SortEntry.{SortEntry}
 
@@ -53,17 +51,17 @@ all-both P [] us a b = b
 all-both P (x ∷ xs) us a b = (a.0, all-both P xs us a.1 b)
 
 -- entries that are made in parts are those of all rows
-pub ranks-joined : (ks : List KeyForm) (sources : List (Vec Source)) (size : ℕ) (rows : List Found) (parts : List (Result (Vec SortEntry) AllocError)) → AreEntriesOfParts ks sources size rows parts → AreMade parts
-    → AreEntriesOf ks sources rows (flat_map items_of parts)
-ranks-joined ks sources = parts-joined (AreEntriesOf ks sources) (record { codable = tt; entries = IsPermutation-refl [] }) both
+pub ranks-joined : (cs : List CodedForm) (size : ℕ) (rows : List Found) (parts : List (Result (Vec SortEntry) AllocError)) → AreEntriesOfParts cs size rows parts → AreMade parts
+    → AreEntriesOf cs rows (flat_map items_of parts)
+ranks-joined cs = parts-joined (AreEntriesOf cs) (record { codable = tt; entries = IsPermutation-refl [] }) both
   where
-    both : (xs us : List Found) (ys vs : List SortEntry) → AreEntriesOf ks sources xs ys → AreEntriesOf ks sources us vs → AreEntriesOf ks sources (xs ++ us) (ys ++ vs)
+    both : (xs us : List Found) (ys vs : List SortEntry) → AreEntriesOf cs xs ys → AreEntriesOf cs us vs → AreEntriesOf cs (xs ++ us) (ys ++ vs)
     both xs us ys vs p q = record {
-      codable = all-both (IsCodableAt ks sources) xs us p.codable q.codable;
+      codable = all-both (IsCodableRow cs) xs us p.codable q.codable;
       entries =
-          subst (λ (rs : List EntryForm). IsPermutation rs (map entry_form (ys ++ vs))) (sym (map-append (entry_at ks sources) xs us))
-          (subst (IsPermutation (map (entry_at ks sources) xs ++ map (entry_at ks sources) us)) (sym (map-append entry_form ys vs))
-          (IsPermutation-append (map (entry_at ks sources) xs) (map entry_form ys) (map (entry_at ks sources) us) (map entry_form vs) p.entries q.entries));
+          subst (λ (rs : List EntryForm). IsPermutation rs (map entry_form (ys ++ vs))) (sym (map-append (entry_at cs) xs us))
+          (subst (IsPermutation (map (entry_at cs) xs ++ map (entry_at cs) us)) (sym (map-append entry_form ys vs))
+          (IsPermutation-append (map (entry_at cs) xs) (map entry_form ys) (map (entry_at cs) us) (map entry_form vs) p.entries q.entries));
     }
 
 -- parts of so many rows are all rows, where there are as many as whole parts, and one more where rows are left

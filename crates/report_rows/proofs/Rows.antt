@@ -1,5 +1,5 @@
 -- The order of rows that fit a query.
-use Rattle.std.proofs.Common.{◌≡◌, ◌≢◌, ◌<◌, ℕ, zero, suc, ◌==◌, Bool, true, false, List, [], ◌∷◌, length, map, get_or, slice_index_or, take, refl, sym, ap, subst, ◌∙◌, arith, All, AllPairs, IsPermutation, IsSortedBy, Bor}
+use Rattle.std.proofs.Common.{◌≡◌, ◌≢◌, ◌<◌, ℕ, suc, ◌==◌, Bool, true, false, List, [], ◌∷◌, length, map, get_or, slice_index_or, refl, sym, ap, subst, ◌∙◌, arith, All, AllPairs, IsPermutation, IsSortedBy, Bor}
 use Rattle.std.specs.Prelude.{filter}
 use Rattle.std.specs.declared.cmp.Ordering.{Ordering}
 use Rattle.std.specs.declared.cmp.Ordering.TheVariants.{Less, Equal, Greater}
@@ -24,9 +24,9 @@ use Rattle.tables_groups.proofs.Order.{key_antisymmetric}
 use Rattle.semantics.specs.Found.{Found, set_of}
 use Rattle.tables_groups.specs.Found.{row_of}
 use Rattle.semantics.specs.Rows.{rows_having_true}
-use Rattle.semantics.specs.Order.{grouping_values, key_value, under_key, under_keys, before, in_order, rows_in_order}
+use Rattle.semantics.specs.Order.{grouping_values, under_key, under_keys, before, in_order, rows_in_order}
 use Rattle.report_rows.specs.Order.{NoneBefore, Ascends}
-use Rattle.report_rows.specs.Inside.SortEntries.{AreEnough, EntryForm, HasKeyOf, IsCodableRow, by_code, entry_of, key_values}
+use Rattle.report_rows.specs.Inside.SortEntries.{AreEnough, CodedForm, EntryForm, HasKeyOf, IsCodableRow, by_code, entry_at, under_coded}
 use Rattle.tables_groups.specs.Fitting.{AreFitting}
 use Rattle.report_rows.specs.Laws.{IsTheOrder, IsBlind}
 use Rattle.report_rows.proofs.Filtering.{bag-having_true, fit-having_true}
@@ -35,9 +35,7 @@ use Rattle.report_rows.proofs.RowCodes.{by_key, codes-tell, under_values}
 use Rattle.sort_keys.specs.SortKeys.{parts_order}
 use Rattle.report_rows.proofs.Sorting.{Apart, apart-in_order, ascends-in_order, ascends-sorted, bag-permutation, one-list, weigh-in_order}
 use Rattle.report_rows.proofs.Sameness.{both-tied, found-tells, same_found}
-use Rattle.query_plan.specs.Planned.{PlannedQuery}
-use Rattle.report_rows.specs.Planned.{HasSetUnder}
-use Rattle.report_rows.proofs.Maps.{all-of-map, map-twice}
+use Rattle.report_rows.proofs.Maps.{map-twice}
 use Rattle.report_rows.proofs.Places.{different-distinct, order-same_set}
 
 -- ---- one row and another
@@ -72,22 +70,11 @@ pub later : (place : ℕ) (ks : List KeyForm) (x y : Datum) (xs ys : List Datum)
 later place [] x y xs ys = refl
 later place (k ∷ ks) x y xs ys = ap (ordering_then (under_key k (slice_index_or xs place null) (slice_index_or ys place null))) (later (suc place) ks x y xs ys)
 
--- the values of the first keys stand as the rows do under these
-first-values : (fields : List Field) (t : TreeForm) (x y : Found) (count : ℕ) (ks : List KeyForm)
-    → under_keys fields t (take count ks) x y ≡ under_values 0 (take count ks) (map (key_value fields t x) ks) (map (key_value fields t y) ks)
-first-values fields t x y zero ks = refl
-first-values fields t x y (suc count) [] = refl
-first-values fields t x y (suc count) (k ∷ ks) =
-    let xs = map (key_value fields t x) ks in
-    let ys = map (key_value fields t y) ks in
-    ap (ordering_then (under_key k (key_value fields t x k) (key_value fields t y k)))
-    (first-values fields t x y count ks ∙ sym (later 0 (take count ks) (key_value fields t x k) (key_value fields t y k) xs ys))
-
 -- the code beside the row is its own, which tells it from others, and the row fits
-pub record IsRight (count : ℕ) (fields : List Field) (t : TreeForm) (r : EntryForm) : Type 0 where
-  code : r.0 ≡ (entry_of count fields t r.1).0
+pub record IsRight (cs : List CodedForm) (fields : List Field) (t : TreeForm) (r : EntryForm) : Type 0 where
+  code : r.0 ≡ (entry_at cs r.1).0
   fits : HasKeyOf fields t r.1
-  codable : IsCodableRow (take count t.keys) (key_values fields t r.1) r.1
+  codable : IsCodableRow cs r.1
 
 -- the keys of one set are equally long
 pub same-length : (fields : List Field) (t : TreeForm) (x y : Found) → HasKeyOf fields t x → HasKeyOf fields t y → x.0 ≡ y.0 → length x.1.key ≡ length y.1.key
@@ -96,23 +83,20 @@ same-length fields t x y fx fy same = fx.1 ∙ ap (λ (i : ℕ). length (get_or 
 abbrev row_beside : EntryForm → Found
 row_beside r = r.1
 
-module _ (count : ℕ) (fields : List Field) (t : TreeForm) (enough : AreEnough count fields t) where
+module _ (cs : List CodedForm) (fields : List Field) (t : TreeForm) (enough : AreEnough cs fields t) where
   -- rows that fit stand as the codes beside them have them
-  same-rank : (r s : EntryForm) → IsRight count fields t r → IsRight count fields t s → before fields t r.1 s.1 ≡ by_code r s
+  same-rank : (r s : EntryForm) → IsRight cs fields t r → IsRight cs fields t s → before fields t r.1 s.1 ≡ by_code r s
   same-rank r s p q =
-      let ks = take count t.keys in
-      let xs = key_values fields t r.1 in
-      let ys = key_values fields t s.1 in
       sym (enough r.1 s.1 p.fits q.fits)
-      ∙ (λ i. ordering_then (first-values fields t r.1 s.1 count t.keys i) (same-order fields t r.1 s.1 p.fits q.fits i))
-      ∙ sym (codes-tell ks xs ys r.1 s.1 p.codable q.codable (same-length fields t r.1 s.1 p.fits q.fits))
+      ∙ ap (ordering_then (under_coded cs r.1 s.1)) (same-order fields t r.1 s.1 p.fits q.fits)
+      ∙ sym (codes-tell cs r.1 s.1 p.codable q.codable (same-length fields t r.1 s.1 p.fits q.fits))
       ∙ (λ i. parts_order (sym p.code i) (sym q.code i))
 
-  none-same : (r : EntryForm) (rs : List EntryForm) → IsRight count fields t r → AllByRecursion (IsRight count fields t) rs → NoneBefore by_code r rs → NoneBefore (before fields t) r.1 (map row_beside rs)
+  none-same : (r : EntryForm) (rs : List EntryForm) → IsRight cs fields t r → AllByRecursion (IsRight cs fields t) rs → NoneBefore by_code r rs → NoneBefore (before fields t) r.1 (map row_beside rs)
   none-same r [] p all n = tt
   none-same r (s ∷ rs) p all n = (ap is_gt (same-rank r s p all.0) ∙ n.0, none-same r rs p all.1 n.1)
 
-  pub ascends-same : (rs : List EntryForm) → AllByRecursion (IsRight count fields t) rs → Ascends by_code rs → Ascends (before fields t) (map row_beside rs)
+  pub ascends-same : (rs : List EntryForm) → AllByRecursion (IsRight cs fields t) rs → Ascends by_code rs → Ascends (before fields t) (map row_beside rs)
   ascends-same [] all a = tt
   ascends-same (r ∷ rs) all a = (none-same r rs all.0 all.1 a.0, ascends-same rs all.1 a.1)
 
@@ -172,14 +156,13 @@ is-blind fields t found fit others bag =
 abbrev pub row_at : Bor (ℕ × Group) → Found
 row_at r = row_of r.now
 
-each-right : (count : ℕ) (fields : List Field) (t : TreeForm) (found : List Found) → AllByRecursion (HasKeyOf fields t) found
-    → AllByRecursion (λ x. IsCodableRow (take count t.keys) (key_values fields t x) x) found → AllByRecursion (IsRight count fields t) (map (entry_of count fields t) found)
-each-right count fields t [] all codable = tt
-each-right count fields t (x ∷ found) all codable = (record { code = refl; fits = all.0; codable = codable.0 }, each-right count fields t found all.1 codable.1)
+each-right : (cs : List CodedForm) (fields : List Field) (t : TreeForm) (found : List Found) → AllByRecursion (HasKeyOf fields t) found → AllByRecursion (IsCodableRow cs) found → AllByRecursion (IsRight cs fields t) (map (entry_at cs) found)
+each-right cs fields t [] all codable = tt
+each-right cs fields t (x ∷ found) all codable = (record { code = refl; fits = all.0; codable = codable.0 }, each-right cs fields t found all.1 codable.1)
 
-rows-beside : (count : ℕ) (fields : List Field) (t : TreeForm) (found : List Found) → map row_beside (map (entry_of count fields t) found) ≡ found
-rows-beside count fields t [] = refl
-rows-beside count fields t (x ∷ found) = ap (λ (xs : List Found). x ∷ xs) (rows-beside count fields t found)
+rows-beside : (cs : List CodedForm) (found : List Found) → map row_beside (map (entry_at cs) found) ≡ found
+rows-beside cs [] = refl
+rows-beside cs (x ∷ found) = ap (λ (xs : List Found). x ∷ xs) (rows-beside cs found)
 
 -- what is a permutation of rows beside values
 pub ranks-moved : {Y : Type 0} (rank : Y → EntryForm) (beside : Found → EntryForm) (found : List Found) (gathered sorted : List Y) → map rank gathered ≡ map beside found → IsPermutation gathered sorted
@@ -187,22 +170,16 @@ pub ranks-moved : {Y : Type 0} (rank : Y → EntryForm) (beside : Found → Entr
 ranks-moved rank beside found gathered sorted are moved = subst (λ (rs : List EntryForm). IsPermutation rs (map rank sorted)) are (IsPermutation-map rank gathered sorted moved)
 
 -- what is sorted by the codes of the rows, of enough keys, has the rows in their order
-pub sorted-ranks : {Y : Type 0} (rank : Y → EntryForm) (count : ℕ) (fields : List Field) (t : TreeForm) (found : List Found) (sorted : List Y) → AreEnough count fields t → IsPermutation (map (entry_of count fields t) found) (map rank sorted)
-    → IsSortedBy (λ a b. is_lt (by_code (rank a) (rank b))) sorted → AllByRecursion (λ x. IsCodableRow (take count t.keys) (key_values fields t x) x) found → AreFitting fields t found
+pub sorted-ranks : {Y : Type 0} (rank : Y → EntryForm) (cs : List CodedForm) (fields : List Field) (t : TreeForm) (found : List Found) (sorted : List Y) → AreEnough cs fields t → IsPermutation (map (entry_at cs) found) (map rank sorted)
+    → IsSortedBy (λ a b. is_lt (by_code (rank a) (rank b))) sorted → AllByRecursion (IsCodableRow cs) found → AreFitting fields t found
     → map (λ y. (rank y).1) sorted ≡ in_order (before fields t) found
-sorted-ranks {Y} rank count fields t found sorted enough there up codable fit =
-    let Right = IsRight count fields t in
-    let entries = map (entry_of count fields t) found in
-    let fits : AllByRecursion Right entries = each-right count fields t found (recursion_from_All (HasKeyOf fields t) found (all-fit fields t found fit)) codable in
+sorted-ranks {Y} rank cs fields t found sorted enough there up codable fit =
+    let Right = IsRight cs fields t in
+    let entries = map (entry_at cs) found in
+    let fits : AllByRecursion Right entries = each-right cs fields t found (recursion_from_All (HasKeyOf fields t) found (all-fit fields t found fit)) codable in
     let right : AllByRecursion Right (map rank sorted) = recursion_from_All Right (map rank sorted) (All-permutation Right entries (map rank sorted) there (All-from_recursion Right entries fits)) in
     let rows : IsPermutation found (map row_beside (map rank sorted)) =
-    subst (λ (xs : List Found). IsPermutation xs (map row_beside (map rank sorted))) (rows-beside count fields t found) (IsPermutation-map row_beside entries (map rank sorted) there) in
+    subst (λ (xs : List Found). IsPermutation xs (map row_beside (map rank sorted))) (rows-beside cs found) (IsPermutation-map row_beside entries (map rank sorted) there) in
     sym (map-twice row_beside rank sorted)
     ∙ only-order fields t found (map row_beside (map rank sorted)) fit (bag-permutation found (map row_beside (map rank sorted)) rows)
-    (ascends-same count fields t enough (map rank sorted) right (ascends-sorted by_code-total rank sorted up))
-
--- rows that fit have indexes of sets
-pub sets-fitting : (plan : PlannedQuery) (groups : List (Bor (ℕ × Group))) → AreFitting plan.fields plan.query (map row_at groups) → All (λ r. HasSetUnder plan (row_at r)) groups
-sets-fitting plan groups fit =
-    All-from_recursion (λ (r : Bor (ℕ × Group)). HasSetUnder plan (row_at r)) groups
-    (all-of-map row_at (HasSetUnder plan) groups (recursion_from_All (HasSetUnder plan) (map row_at groups) fit.indexes))
+    (ascends-same cs fields t enough (map rank sorted) right (ascends-sorted by_code-total rank sorted up))

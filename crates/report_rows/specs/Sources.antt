@@ -3,10 +3,8 @@ use Rattle.std.specs.Prelude.{◌≡◌, ◌<◌, ℕ, ⊤, List, [], ◌∷◌,
 use Rattle.std.specs.Borrow.{Bor}
 use Rattle.std.specs.Global.{Vec}
 use Rattle.values.specs.Datum.{datum_of}
-use Rattle.semantics.specs.Values.{Datum, null}
+use Rattle.semantics.specs.Values.{null}
 use Rattle.semantics.specs.Syntax.{ExpressionForm}
-use Rattle.semantics.specs.Sets.{sets_of}
-use Rattle.semantics.specs.Types.{key_expression}
 use Rattle.query_ast.specs.declared.expression.Expression.{Expression}
 use Rattle.query_ast.specs.Syntax.{expression_form}
 use Rattle.query_plan.specs.Planned.{PlannedQuery}
@@ -15,7 +13,7 @@ use Rattle.semantics.specs.Groups.{Key}
 use Rattle.semantics.specs.Found.{Found}
 use Rattle.report_rows.specs.declared.source.Source.{Source}
 use Rattle.report_rows.specs.declared.source.Source.TheVariants.{KeyAt, CellAt, Always}
-use Rattle.semantics.specs.Rows.{cell_value, expression_shown}
+use Rattle.semantics.specs.Rows.{expression_shown}
 
 -- what a row with this key and these cells has there, and NULL where it has nothing
 abbrev pub shown_at : Key → List Summary → Source → Summary
@@ -66,14 +64,8 @@ expression_forms expressions = map (λ e. expression_form e.now) expressions
 abbrev pub AreSourcesFor : PlannedQuery → List ExpressionForm → List ℕ → List Source → Type 0
 AreSourcesFor plan es set sources = (key : Key) (cells : List Summary) → map (shown_at key cells) sources ≡ map (expression_shown plan.fields plan.query set key cells) es
 
--- the expressions of the keys of ORDER BY, where an alias of SELECT stands for its item
-abbrev pub key_expressions : PlannedQuery → List ExpressionForm
-key_expressions plan = map (λ k. key_expression plan.query.items k.expression) plan.query.keys
+-- ---- places for one expression
 
--- the rows of each grouping set of the plan have there what they show for the keys of ORDER BY
-abbrev pub AreKeySources : PlannedQuery → List (Vec Source) → Type 0
-AreKeySources plan all = ForEachSet (AreSourcesFor plan (key_expressions plan)) (sets_of plan.fields plan.query) all
-
--- the values of what the row of a group has where its grouping set has what it shows; an average is no single value, and is NULL
-abbrev pub values_at : List (Vec Source) → Found → List Datum
-values_at all row = map cell_value (cells_at all row)
+-- the rows of each of these grouping sets have there, at one place for each set, what they show for the expression
+abbrev pub AreSourcesBySet : PlannedQuery → ExpressionForm → List (List ℕ) → List Source → Type 0
+AreSourcesBySet plan e sets sources = (key : Key) (cells : List Summary) → map (shown_at key cells) sources ≡ map (λ set. expression_shown plan.fields plan.query set key cells e) sets

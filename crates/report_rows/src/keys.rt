@@ -1,5 +1,5 @@
 //! The codes of rows, by which they are put in order.
-ghost use Rattle.std.specs.Prelude.{◌≡◌, ◌++◌, ◌<◌, [], IfOk, MatchOption, OnOk, length, map};
+ghost use Rattle.std.specs.Prelude.{◌≡◌, ◌++◌, [], IfOk, MatchOption, OnOk, map};
 ghost use Rattle.values.specs.Datum.{datum_of};
 ghost use Rattle.semantics.specs.Values.{null};
 ghost use Rattle.semantics.specs.Aggregates.{plain};
@@ -11,9 +11,10 @@ ghost use Rattle.tables_groups.specs.Cells.{summary_of};
 ghost use Rattle.tables_groups.specs.Found.{row_of};
 ghost use Rattle.report_rows.specs.declared.source.Source.TheVariants.{CellAt};
 ghost use Rattle.report_rows.specs.Sources.{shown_at};
-ghost use Rattle.report_rows.specs.Inside.SortEntries.{AreCodable, IsCodableAt, entry_at, keys_code, value_at_source, values_at_sources};
+ghost use Rattle.report_rows.specs.Inside.SortEntries.{AreCodable, IsCodableRow, coded_code, coded_form, coded_value, entry_at, keys_code, value_at_source};
 
-use crate::source::{Source, sources_at};
+use crate::coded_key::CodedKey;
+use crate::source::Source;
 use query_plan::Key;
 use sort_keys::{SortKey, put_index, put_key_value, put_values};
 use std::alloc::{AllocError, Global};
@@ -60,45 +61,57 @@ fn put_source(
     }
 }
 
-/// Puts the codes of what a group has at sources behind other bytes, where each source is that of the key of ORDER BY at its
-/// place.
-fn put_sources(
+/// Puts the code of the value of a key of ORDER BY for the row of a group, which stands beside the index of its
+/// grouping set, behind other bytes.
+fn put_key(
     code: &mut Vec<u8>,
-    keys: &[Key],
-    sources: &[Source],
-    group: &Group,
+    coded: &CodedKey<'_>,
+    found: &(usize, Group),
 ) -> Result<(), AllocError>
-    ensures code { OnOk result (code.new.items ≡ code.old.items
-        ++ keys_code 0 (map key_form keys.now) (values_at_sources group.now sources.now)) }
-    ensures codable { OnOk result
-        (AreCodable 0 (map key_form keys.now) (values_at_sources group.now sources.now)) }
+    ensures code { OnOk result (code.new.items
+        ≡ code.old.items ++ coded_code (row_of found.now) (coded_form coded.now)) }
+    ensures codable { IsCodable (coded_value (row_of found.now) (coded_form coded.now)) }
 {
-    let absent = Source::Always(Value::Null);
-    for (place, key) in keys.iter().enumerate() {
-        let source = sources.get(place).unwrap_or(&absent);
-        put_source(code, key, source, group)?;
+    let (index, group) = found;
+    match coded.sources.get(*index) {
+        Some(source) => put_source(code, coded.key, source, group),
+        None => put_key_value(code, coded.key, &Value::Null),
+    }
+}
+
+/// Puts the codes of the values of keys of ORDER BY for the row of a group behind other bytes.
+fn put_keys(
+    code: &mut Vec<u8>,
+    keys: &[CodedKey<'_>],
+    found: &(usize, Group),
+) -> Result<(), AllocError>
+    ensures code { OnOk result (code.new.items
+        ≡ code.old.items ++ keys_code (row_of found.now) (map coded_form keys.now)) }
+    ensures codable { OnOk result
+        (AreCodable (row_of found.now) (map coded_form keys.now)) }
+{
+    for key in keys {
+        put_key(code, key, found)?;
     }
     Ok(())
 }
 
-/// The sort key of the row of a group, which stands beside the index of its grouping set, from where the rows of each set have
-/// the values of the keys of ORDER BY. The code is written into `code`, in place of what is there.
+/// The sort key of the row of a group, which stands beside the index of its grouping set. The code is written into
+/// `code`, in place of what is there.
 pub(crate) fn row_key(
     alloc: Global,
     code: &mut Vec<u8>,
-    keys: &[Key],
-    sources: &[Vec<Source>],
+    keys: &[CodedKey<'_>],
     found: &(usize, Group),
 ) -> Result<SortKey, AllocError>
-    requires { (row_of found.now).0 < length sources.now }
     ensures key { IfOk result (λ key. key_parts key
-        ≡ (entry_at (map key_form keys.now) sources.now (row_of found.now)).0) }
+        ≡ (entry_at (map coded_form keys.now) (row_of found.now)).0) }
     ensures codable { OnOk result
-        (IsCodableAt (map key_form keys.now) sources.now (row_of found.now)) }
+        (IsCodableRow (map coded_form keys.now) (row_of found.now)) }
 {
     let (index, group) = found;
     code.clear();
-    put_sources(code, keys, sources_at(sources, *index), group)?;
+    put_keys(code, keys, found)?;
     put_index(code, *index)?;
     put_values(code, group.key.as_slice())?;
     SortKey::new(alloc, code.as_slice())

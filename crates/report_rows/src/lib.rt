@@ -7,6 +7,7 @@
 mod arranging;
 mod cells;
 mod coded;
+mod coded_key;
 mod having;
 mod keys;
 mod laws;

@@ -1,34 +1,24 @@
 //! The order of rows.
-ghost use Rattle.std.specs.Prelude.{◌≡◌, ◌<◌, ◌++◌, All, IfOk, OnOk, length, map, take};
+ghost use Rattle.std.specs.Prelude.{◌≡◌, ◌<◌, ◌++◌, IfOk, OnOk, map};
 ghost use Rattle.std.specs.List.{AllByRecursion, flat_map};
 ghost use Rattle.std.specs.List.Sorted.{IsPermutation, IsSortedBy};
 ghost use Rattle.std.specs.Ordering.{is_lt};
-ghost use Rattle.query_ast.specs.Syntax.{key_form};
 ghost use Rattle.tables_groups.specs.Found.{row_of};
 ghost use Rattle.tables_groups.specs.Fitting.{AreFitting};
 ghost use Rattle.semantics.specs.Order.{before, in_order};
 ghost use Rattle.report_rows.specs.Parts.{AreMade, items_of};
-ghost use Rattle.report_rows.specs.Inside.SortEntries.{AreEntriesOf, AreEntriesOfParts, IsCodableAt, by_code, entry_at, entry_form};
+ghost use Rattle.report_rows.specs.Inside.SortEntries.{AreEntriesOf, AreEntriesOfParts, IsCodableRow, by_code, coded_form, entry_at, entry_form};
 
 use crate::coded::coded_keys;
+use crate::coded_key::CodedKey;
 use crate::keys::row_key;
 use crate::sort_entry::SortEntry;
-use crate::source::{Source, key_sources};
 use crate::view::PlanView;
-use query_plan::Key;
 use std::alloc::{AllocError, Global};
 use std::marker::Sync;
 use std::thread;
 use std::thread::Threads;
 use tables_groups::Group;
-
-/// So many of the first keys of ORDER BY, and all where there are fewer.
-fn first_keys<'p>(plan: &'p PlanView<'_>, count: usize) -> &'p [Key]
-    ensures { map key_form result.now ≡ take count plan.now.query.keys }
-{
-    let keys = plan.query().tree().keys.as_slice();
-    keys.get(..count).unwrap_or(keys)
-}
 
 /// The groups in the order of their rows: by the keys of ORDER BY, where there are some, and else by their sets and keys.
 pub(crate) fn in_order<'a>(
@@ -41,9 +31,8 @@ pub(crate) fn in_order<'a>(
         ≡ in_order (before plan.now.fields plan.now.query)
         (map (λ r. row_of r.now) rows.entry.items)) }
 {
-    let sources = key_sources(alloc, plan)?;
-    let keys = first_keys(plan, coded_keys(plan, &sources));
-    let entries = make_entries(alloc, keys, &sources, rows.as_slice())?;
+    let keys = coded_keys(alloc, plan)?;
+    let entries = make_entries(alloc, keys.as_slice(), rows.as_slice())?;
     let ordered = sort_entries(entries);
     groups_in(alloc, ordered)
 }
@@ -66,29 +55,25 @@ pub(crate) fn in_order_among<'a, H: Threads + Sync>(
     if rows.len() <= size {
         return in_order(alloc, plan, rows);
     }
-    let sources = key_sources(alloc, plan)?;
-    let count = coded_keys(plan, &sources);
-    let parts = parts_in_order(rt, alloc, plan, count, &sources, rows.as_slice(), size)?;
+    let keys = coded_keys(alloc, plan)?;
+    let parts = parts_in_order(rt, alloc, keys.as_slice(), rows.as_slice(), size)?;
     let entries = rows_of_parts(alloc, parts.as_slice(), rows.len())?;
     let ordered = merge_entries(entries)?;
     groups_at(alloc, ordered)
 }
 
-/// The groups in parts of so many, each beside what their rows are put in order by, with `count` keys of ORDER BY, and each
-/// part in that order.
+/// The groups in parts of so many, each beside what their rows are put in order by, with these keys of ORDER BY, and
+/// each part in that order.
 fn parts_in_order<'a, H: Threads + Sync>(
     rt: &H,
     alloc: Global,
-    plan: &PlanView<'_>,
-    count: usize,
-    sources: &[Vec<Source>],
+    keys: &[CodedKey<'_>],
     rows: &[&'a (usize, Group)],
     size: usize,
 ) -> Result<Vec<Result<Vec<SortEntry<'a>>, AllocError>>, AllocError>
-    requires size { 0 < size }
-    requires within { All (λ r. (row_of r.now).0 < length sources.now) rows.now }
-    ensures { IfOk result (λ parts. AreEntriesOfParts (take count plan.now.query.keys)
-        sources.now size (map (λ r. row_of r.now) rows.now) parts.items) }
+    requires { 0 < size }
+    ensures { IfOk result (λ parts. AreEntriesOfParts (map coded_form keys.now) size
+        (map (λ r. row_of r.now) rows.now) parts.items) }
 {
     let parts = thread::map_chunks(
         rt,
@@ -96,49 +81,43 @@ fn parts_in_order<'a, H: Threads + Sync>(
         rows,
         size,
         &|_, part: &[&(usize, Group)]| -> Result<Vec<SortEntry<'_>>, AllocError>
-            requires { All (λ r. (row_of r.now).0 < length sources.now) part.now }
-            ensures { IfOk result (λ v. AreEntriesOf (take count plan.entry.now.query.keys)
-                sources.entry.now (map (λ r. row_of r.now) part.entry.now) v.items) }
-        { part_in_order(alloc, plan, count, sources, part) },
+            ensures { IfOk result (λ v. AreEntriesOf (map coded_form keys.entry.now)
+                (map (λ r. row_of r.now) part.entry.now) v.items) }
+        { part_in_order(alloc, keys, part) },
     )?;
     Ok(parts)
 }
 
-/// The groups of one part beside what their rows are put in order by, with `count` keys of ORDER BY, in that order.
+/// The groups of one part beside what their rows are put in order by, with these keys of ORDER BY, in that order.
 fn part_in_order<'a>(
     alloc: Global,
-    plan: &PlanView<'_>,
-    count: usize,
-    sources: &[Vec<Source>],
+    keys: &[CodedKey<'_>],
     rows: &[&'a (usize, Group)],
 ) -> Result<Vec<SortEntry<'a>>, AllocError>
-    requires { All (λ r. (row_of r.now).0 < length sources.now) rows.now }
-    ensures { IfOk result (λ v. AreEntriesOf (take count plan.now.query.keys) sources.now
+    ensures { IfOk result (λ v. AreEntriesOf (map coded_form keys.now)
         (map (λ r. row_of r.now) rows.now) v.items) }
 {
-    let entries = make_entries(alloc, first_keys(plan, count), sources, rows)?;
+    let entries = make_entries(alloc, keys, rows)?;
     Ok(sort_entries(entries))
 }
 
-/// The groups beside what their rows are put in order by, where the rows of each grouping set have the values of the keys at
-/// these sources. Each code is written into the same memory.
+/// The groups beside what their rows are put in order by, with these keys of ORDER BY. Each code is written into the
+/// same memory.
 fn make_entries<'a>(
     alloc: Global,
-    keys: &[Key],
-    sources: &[Vec<Source>],
+    keys: &[CodedKey<'_>],
     rows: &[&'a (usize, Group)],
 ) -> Result<Vec<SortEntry<'a>>, AllocError>
-    requires { All (λ r. (row_of r.now).0 < length sources.now) rows.now }
     ensures entries { IfOk result (λ v. map entry_form v.items
-        ≡ map (entry_at (map key_form keys.now) sources.now) (map (λ r. row_of r.now) rows.now)) }
+        ≡ map (entry_at (map coded_form keys.now)) (map (λ r. row_of r.now) rows.now)) }
     ensures codable { OnOk result
-        (AllByRecursion (IsCodableAt (map key_form keys.now) sources.now)
+        (AllByRecursion (IsCodableRow (map coded_form keys.now))
         (map (λ r. row_of r.now) rows.now)) }
 {
     let mut code = Vec::new(alloc);
     let mut entries = Vec::with_capacity(alloc, rows.len())?;
     for found in rows {
-        let key = row_key(alloc, &mut code, keys, sources, found)?;
+        let key = row_key(alloc, &mut code, keys, found)?;
         entries.push(SortEntry { key, found: *found })?;
     }
     Ok(entries)

@@ -9,13 +9,12 @@ ghost use Rattle.semantics.specs.SetFunctions.{functions_of};
 ghost use Rattle.semantics.specs.Aggregates.{Summary, plain};
 ghost use Rattle.semantics.specs.Groups.{Key};
 ghost use Rattle.semantics.specs.Rows.{name_shown};
-ghost use Rattle.report_rows.specs.Sources.{AreKeySources, AreSourcesFor, AreSourcesOfEach, ForEachSet, IsSourceOf, IsWithin, expression_forms, key_expressions, shown_at, sources_at};
+ghost use Rattle.report_rows.specs.Sources.{AreSourcesBySet, AreSourcesFor, AreSourcesOfEach, ForEachSet, IsSourceOf, IsWithin, expression_forms, shown_at, sources_at};
 
 use crate::cells::grouping_value;
 use crate::view::PlanView;
 use query_plan::{Expression, Text};
 use query_resolve::place_of;
-use query_typecheck::key_expression;
 use std::alloc::{AllocError, Global};
 use values::{Column, Value};
 
@@ -126,23 +125,6 @@ fn item_expressions<'p>(
     Ok(expressions)
 }
 
-/// The expressions of the keys of ORDER BY, where an alias of SELECT stands for its item.
-fn key_expressions<'p>(
-    alloc: Global,
-    plan: &'p PlanView<'_>,
-) -> Result<Vec<&'p Expression>, AllocError>
-    ensures { IfOk result (λ expressions.
-        expression_forms expressions.items ≡ key_expressions plan.now) }
-{
-    let items = plan.query().tree().items.as_slice();
-    let keys = plan.query().tree().keys.as_slice();
-    let mut expressions = Vec::with_capacity(alloc, keys.len())?;
-    for key in keys {
-        expressions.push(key_expression(items, &key.expression))?;
-    }
-    Ok(expressions)
-}
-
 /// Where the rows of each grouping set of the plan, in their order, have what they show for each item of SELECT.
 ///
 /// Example: for `SELECT d, COUNT(*) FROM lines GROUP BY d` it answers one list, of `KeyAt(0)` and `CellAt(0)`.
@@ -158,15 +140,22 @@ pub fn sources_by_set(alloc: Global, plan: &PlanView<'_>) -> Result<Vec<Vec<Sour
     sources_of_each(alloc, plan, expressions.as_slice())
 }
 
-/// Where the rows of each grouping set of the plan, in their order, have what they show for each key of ORDER BY.
-pub(crate) fn key_sources(
+/// Where the rows of each grouping set of the plan, in their order, have what they show for an expression.
+pub(crate) fn expression_sources(
     alloc: Global,
     plan: &PlanView<'_>,
-) -> Result<Vec<Vec<Source>>, AllocError>
-    ensures { IfOk result (λ all. AreKeySources plan.now all.items) }
+    expression: &Expression,
+) -> Result<Vec<Source>, AllocError>
+    ensures { IfOk result (λ sources.
+        AreSourcesBySet plan.now (expression_form expression.now)
+        (sets_of plan.now.fields plan.now.query) sources.items) }
 {
-    let expressions = key_expressions(alloc, plan)?;
-    sources_of_each(alloc, plan, expressions.as_slice())
+    let mut sources = Vec::with_capacity(alloc, plan.sets().len())?;
+    for set in plan.sets() {
+        let source = source_of(plan, set, expression);
+        sources.push(source)?;
+    }
+    Ok(sources)
 }
 
 /// Where the rows of the grouping set at an index have what they show. There is a grouping set at the index.

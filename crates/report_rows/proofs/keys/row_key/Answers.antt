@@ -1,34 +1,29 @@
 use Rattle.std.proofs.Common.{◌∙◌, List, ap, map, subst}
 use Rattle.std.specs.List.{AllByRecursion}
 use Rattle.std.proofs.lemmas.Result.{IfOk-weaker}
-use Rattle.query_ast.specs.Syntax.{key_form}
 use Rattle.values.specs.Datum.{data_of}
 use Rattle.values.specs.declared.value.Value.{Value}
 use Rattle.sort_keys.specs.Codes.{IsCodable}
 use Rattle.sort_keys.specs.SortKeys.{parts_of}
 use Rattle.tables_groups.specs.Found.{row_of}
-use Rattle.report_rows.specs.Sources.{values_at}
-use Rattle.report_rows.specs.Inside.SortEntries.{AreCodable, values_at_sources}
+use Rattle.report_rows.specs.Inside.SortEntries.{coded_form}
 use Rattle.report_rows.proofs.Placed.{on-ok, row-whole}
 use Rattle.report_rows.proofs.keys.row_key.Goals as goal
 
 pub returns-clause-key : goal.returns-clause-key
 returns-clause-key c =
-    let ks = map key_form c.args.keys.now in
+    let cs = map coded_form c.args.keys.now in
     let row = row_of c.args.found.now in
-    let group = c.args.found.now.1 in
-    let code = row-whole ks (values_at_sources group c.sources_at.result.now) (values_at c.args.sources.now row) row (data_of c.as_slice.result.now)
-    c.clear.new.self.items c.put_sources.new.code.items c.put_index.new.code.items c.put_values.new.code.items c.as_slice-2.result.now
-    c.clear.ensures.items c.in_ok-put_sources.ensures.code c.in_ok-put_index.ensures.code c.in_ok-put_values.ensures.code c.as_slice-2.ensures.value
-    (ap (values_at_sources group) c.sources_at.ensures) (ap data_of c.as_slice.ensures.value) in
+    let code = row-whole cs row (data_of c.as_slice.result.now)
+    c.clear.new.self.items c.put_keys.new.code.items c.put_index.new.code.items c.put_values.new.code.items c.as_slice-2.result.now
+    c.clear.ensures.items c.in_ok-put_keys.ensures.code c.in_ok-put_index.ensures.code c.in_ok-put_values.ensures.code c.as_slice-2.ensures.value
+    (ap data_of c.as_slice.ensures.value) in
     IfOk-weaker c.new.result _ _ (λ key e. e ∙ ap parts_of code) c.new.ensures
 
 pub returns-clause-codable : goal.returns-clause-codable
 returns-clause-codable c =
-    let ks = map key_form c.args.keys.now in
-    let group = c.args.found.now.1 in
     on-ok c.new.result (record {
-      values = subst (AreCodable 0 ks) (ap (values_at_sources group) c.sources_at.ensures) c.in_ok-put_sources.ensures.codable;
+      values = c.in_ok-put_keys.ensures.codable;
       index = c.in_ok-put_index.ensures.fits;
       key = subst (λ (vs : List Value). AllByRecursion IsCodable (data_of vs)) c.as_slice.ensures.value c.in_ok-put_values.ensures.codable;
     })
