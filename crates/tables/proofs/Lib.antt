@@ -1,5 +1,6 @@
 mod Examples
 pub mod SetTables
+pub mod Walking
 pub mod Telling
 pub mod Once
 pub mod Orders

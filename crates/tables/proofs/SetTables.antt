@@ -1,12 +1,12 @@
 -- Tables of grouping sets, rolled out of one another.
-use Rattle.std.proofs.Common.{◌≡◌, ◌≢◌, ◌==◌, ◌<◌, ◌≤◌, ◌-◌, ◌^◌, ℕ, zero, suc, IfOk, IfSome, Result, Ok, Err, Option, Some, take, Bool, true, false, ◌||◌, not, List, [], ◌∷◌, ◌++◌, All, Vec, Global, length, slice_index_or, get_or, nat_eq, nat_lt, refl, sym, ap, subst, ◌∙◌, arith, append_assoc}
-use Rattle.std.proofs.lemmas.Bool.Decides.{Decides-eqb}
-use Rattle.std.proofs.lemmas.List.Elements.{All-cons, All-from_recursion, All-map, recursion_from_All}
-use Rattle.std.proofs.lemmas.Slice.Eq.{slice_eq-Decides}
-use Rattle.std.specs.Bool.{Decides}
-use Rattle.std.specs.Cmp.Lexicographic.{pointwise}
-use Rattle.std.specs.List.{AllByRecursion, AllZip, list_any, remove}
+use Rattle.std.proofs.Common.{◌≡◌, ◌≢◌, ◌==◌, ◌<◌, ◌+◌, ◌-◌, ◌^◌, ℕ, zero, suc, IfOk, IfSome, Result, Ok, Err, Option, None, Some, take, Bool, true, false, ◌||◌, not, eqb, List, [], ◌∷◌, ◌++◌, All, Vec, Global, length, map, slice_index_or, get_or, refl, sym, ap, ap₂, subst, ◌∙◌, arith, append_assoc}
+use Rattle.std.proofs.lemmas.List.{get_or-map, get_or_read, length-map, map_push}
+use Rattle.std.proofs.lemmas.List.Elements.{All-from_recursion, All-head, All-weaker, recursion_from_All}
+use Rattle.std.proofs.lemmas.List.Sorted.{IsPermutation-append_right, IsPermutation-middle, IsPermutation-trans}
+use Rattle.std.proofs.lemmas.Option.{IfSome_then, same_Some}
+use Rattle.std.specs.List.{AllByRecursion, Any, list_any}
 use Rattle.std.specs.List.Sorted.{IsPermutation}
+use Rattle.std.specs.Option.{option_eq}
 use Rattle.std.specs.Result.{result_ok}
 use Rattle.semantics.specs.Columns.{Field}
 use Rattle.semantics.specs.Syntax.{TreeForm}
@@ -23,7 +23,7 @@ use Rattle.query_resolve.specs.declared.function.FilteredFunction.{FilteredFunct
 use Rattle.tables.specs.declared.rolling.Roll.{Roll}
 use Rattle.tables.specs.declared.rolling.SetTable.{SetTable}
 use Rattle.tables.specs.Properties.{AreGroupsWith, HasProperty, Property, of_at_most, of_records, of_types}
-use Rattle.tables.specs.SetTables.{AreRolled, HasFiner, IsMade, IsMadeOrRolled, IsOfSameRecords}
+use Rattle.tables.specs.SetTables.{AreRolled, HasFiner, ListedSet, NoneHasIndex, StandsAtIndex, listed_roll, listed_table, sets_of_rolls, sets_of_tables}
 use Rattle.tables.proofs.Bags.{all-everywhere, all-filter, all-map}
 
 -- ---- columns that are among others
@@ -59,31 +59,6 @@ sets-among fields q =
     (all-everywhere (λ names. AreAmong (set_of_names fields q names) grouping) (names_kept fields q)
     (λ names. all-filter (λ place. list_any (λ p. p == place) grouping ≡ true) (λ c. list_any (λ p. p == c) (places_of fields names)) grouping (among-self grouping)))))
 
--- ---- sets that are the same
-
-same-Decides : (set other : List ℕ) (b : Bool) → b ≡ pointwise nat_eq set other → Decides b (set ≡ other)
-same-Decides set other b e = slice_eq-Decides Decides-eqb set other b e
-
-or-false : (a b : Bool) → (a || b) ≡ false → (a ≡ false) × (b ≡ false)
-or-false true b h = cc
-or-false false b h = (refl, h)
-
--- a set that none of a list is the same as is none of it
-not-any : (sets : List (Vec ℕ Global)) (set : List ℕ) → list_any (λ (other : Vec ℕ Global). pointwise nat_eq other.items set) sets ≡ false
-    → AllByRecursion (λ (other : Vec ℕ Global). other.items ≢ set) sets
-not-any [] set h = tt
-not-any (other ∷ sets) set h =
-    let both = or-false (pointwise nat_eq other.items set) (list_any (λ (o : Vec ℕ Global). pointwise nat_eq o.items set) sets) h in
-    (λ e. cc (sym both.0 ∙ (same-Decides other.items set (pointwise nat_eq other.items set) refl).1 e), not-any sets set both.1)
-
-pub none-same : (sets : List (Vec ℕ Global)) (set : List ℕ) (b : Bool) → b ≡ list_any (λ (other : Vec ℕ Global). pointwise nat_eq other.items set) sets → b ≡ false
-    → All (λ (other : Vec ℕ Global). other.items ≢ set) sets
-none-same sets set b e h = All-from_recursion (λ (other : Vec ℕ Global). other.items ≢ set) sets (not-any sets set (sym e ∙ h))
-
-pub not-true : (b : Bool) → not b ≡ true → b ≡ false
-not-true true h = cc
-not-true false h = refl
-
 -- ---- sets of the code, and their columns
 
 from-contents : (P : List ℕ → Type 0) (sets : List (Vec ℕ Global)) → AllByRecursion P (contents sets) → AllByRecursion (λ (set : Vec ℕ Global). P set.items) sets
@@ -93,106 +68,38 @@ from-contents P (set ∷ sets) h = (h.0, from-contents P sets h.1)
 pub all-from_contents : (P : List ℕ → Type 0) (sets : List (Vec ℕ Global)) → All P (contents sets) → All (λ (set : Vec ℕ Global). P set.items) sets
 all-from_contents P sets h = All-from_recursion (λ (set : Vec ℕ Global). P set.items) sets (from-contents P sets (recursion_from_All P (contents sets) h))
 
-pub all-contents : (P : List ℕ → Type 0) (sets : List (Vec ℕ Global)) → All (λ (set : Vec ℕ Global). P set.items) sets → All P (contents sets)
-all-contents P sets h = All-map P (λ (set : Vec ℕ Global). set.items) sets h
-
--- ---- tables that are there
-
-pub under : (m n : ℕ) → (n ≤ m → ⊥) → m < n
-under m n h = elim (nat_lt m n) as (λ b. nat_lt m n ≡ b → m < n) [
-  | true ↦ λ e. grind (arith, e)
-  | false ↦ λ e. absurd (h (grind (arith, e)))
-] refl
-
-below : (m n : ℕ) → m ≤ n → (m ≡ n → ⊥) → m < n
-below m n le different = elim (m == n) as (λ b. (m == n) ≡ b → m < n) [
-  | true ↦ λ e. absurd (different (grind (arith, e)))
-  | false ↦ λ e. grind (arith, e, le)
-] refl
-
--- where the table of a set is there, its place is one of a table
-pub placed : (set : List ℕ) (tables : List SetTable) (place : ℕ) → place ≤ length tables
-    → (place ≡ length tables → All (λ (table : SetTable). table.set.items ≢ set) tables) → IsMade set tables → place < length tables
-placed set tables place le none made = below place (length tables) le (λ e. made (none e))
+-- ---- parts of lists
 
 firsts : {X : Type 0} (P : X → Type 0) (xs ys : List X) → AllByRecursion P (xs ++ ys) → AllByRecursion P xs
 firsts P [] ys h = tt
 firsts P (x ∷ xs) ys h = (h.0, firsts P xs ys h.1)
 
-last : {X : Type 0} (P : X → Type 0) (xs : List X) (x : X) → AllByRecursion P (xs ++ x ∷ []) → P x
-last P [] x h = h.0
-last P (y ∷ xs) x h = last P xs x h.1
+seconds : {X : Type 0} (P : X → Type 0) (xs ys : List X) → AllByRecursion P (xs ++ ys) → AllByRecursion P ys
+seconds P [] ys h = h
+seconds P (x ∷ xs) ys h = seconds P xs ys h.1
 
--- where a table comes to others, those that are there stay
-pub made-others : (set : List ℕ) (tables : List SetTable) (table : SetTable) → IsMade set tables → IsMade set (tables ++ table ∷ [])
-made-others set tables table made h =
-    let P : SetTable → Type 0 = λ x. x.set.items ≢ set in
-    made (All-from_recursion P tables (firsts P tables (table ∷ []) (recursion_from_All P (tables ++ table ∷ []) h)))
+-- what holds of all of two lists holds of all of the first
+pub all-first : {X : Type 0} (P : X → Type 0) (xs ys : List X) → All P (xs ++ ys) → All P xs
+all-first P xs ys h = All-from_recursion P xs (firsts P xs ys (recursion_from_All P (xs ++ ys) h))
 
--- and it is there
-pub made-last : (set : List ℕ) (tables : List SetTable) (table : SetTable) → table.set.items ≡ set → IsMade set (tables ++ table ∷ [])
-made-last set tables table e h =
-    let P : SetTable → Type 0 = λ x. x.set.items ≢ set in
-    last P tables table (recursion_from_All P (tables ++ table ∷ []) h) e
+-- and of all of the second
+pub all-second : {X : Type 0} (P : X → Type 0) (xs ys : List X) → All P (xs ++ ys) → All P ys
+all-second P xs ys h = All-from_recursion P ys (seconds P xs ys (recursion_from_All P (xs ++ ys) h))
 
--- where all but one are so, and that one is, all are
-around : {X : Type 0} (P : X → Type 0) (xs : List X) (i : ℕ) → AllByRecursion P (remove xs i) → ((d : X) → P (slice_index_or xs i d)) → AllByRecursion P xs
-around P [] i h p = tt
-around P (x ∷ xs) zero h p = (p x, h)
-around P (x ∷ xs) (suc i) h p = (h.0, around P xs i h.1 p)
+-- and of the last one
+pub all-last : {X : Type 0} (P : X → Type 0) (xs : List X) (x : X) → All P (xs ++ x ∷ []) → P x
+all-last P xs x h = All-head P x [] (all-second P xs (x ∷ []) h)
 
--- where the table of a set goes, those of other sets stay
-pub made-left : (set other : List ℕ) (tables : List SetTable) (i : ℕ) → ((d : SetTable) → (slice_index_or tables i d).set.items ≡ set) → other ≢ set
-    → IsMade other tables → IsMade other (remove tables i)
-made-left set other tables i at different made h =
-    let P : SetTable → Type 0 = λ x. x.set.items ≢ other in
-    made (All-from_recursion P tables (around P tables i (recursion_from_All P (remove tables i) h) (λ d e. different (sym e ∙ at d))))
+-- what holds of all things that are made of others
+pub all-unmap : {X Y : Type 0} (P : Y → Type 0) (f : X → Y) (xs : List X) → All P (map f xs) → All (λ x. P (f x)) xs
+all-unmap P f xs h = λ k d l. subst P (get_or-map f xs k d (f d) l) (h k (f d) (omega (arith, l, length-map xs f)))
 
-others-left : {X : Type 0} (P : X → Type 0) (xs : List X) (i : ℕ) → AllByRecursion P xs → AllByRecursion P (remove xs i)
-others-left P [] zero h = tt
-others-left P [] (suc i) h = tt
-others-left P (x ∷ xs) zero h = h.1
-others-left P (x ∷ xs) (suc i) h = (h.0, others-left P xs i h.1)
-
--- what holds of all tables holds of all but one
-pub all-left : (P : SetTable → Type 0) (tables : List SetTable) (i : ℕ) → All P tables → All P (remove tables i)
-all-left P tables i h = All-from_recursion P (remove tables i) (others-left P tables i (recursion_from_All P tables h))
-
--- ---- a table that has the columns of a set
-
--- where the table of all grouping columns is there, each set of such columns has one
-pub finer-there : (set grouping : List ℕ) (tables : List SetTable) → AreAmong set grouping → IsMade grouping tables → HasFiner set tables
-finer-there set grouping tables among made h = made (λ k d l e. h k d l (subst (AreAmong set) (sym e) among))
-
--- ---- the groups of the sets so far
-
-pub groups-more : {A B : Type 0} (R : A → B → Type 0) (xs : List A) (ys : List B) (x : A) (y : B) → AllZip R xs ys → R x y → AllZip R (xs ++ x ∷ []) (ys ++ y ∷ [])
-groups-more R [] [] x y h g = (g, tt)
-groups-more R [] (b ∷ ys) x y h g = absurd h
-groups-more R (a ∷ xs) [] x y h g = absurd h
-groups-more R (a ∷ xs) (b ∷ ys) x y h g = (h.0, groups-more R xs ys x y h.1 g)
-
--- ---- a table at its place
-
--- where the table of a set is there, it stands at the place that is found
-pub placed-at : (set : List ℕ) (tables found : List SetTable) (place : ℕ) → found ≡ tables → place ≤ length found
-    → (place < length found → (d : SetTable) → (slice_index_or found place d).set.items ≡ set)
-    → (place ≡ length found → All (λ (table : SetTable). table.set.items ≢ set) found) → IsMade set tables
-    → (place < length tables) × ((d : SetTable) → (slice_index_or tables place d).set.items ≡ set)
-placed-at set tables found place e within there none made =
-    let lt : place < length found = placed set found place within none (subst (IsMade set) (sym e) made) in
-    subst (λ (ts : List SetTable). (place < length ts) × ((d : SetTable) → (slice_index_or ts place d).set.items ≡ set)) e (lt, there lt)
-
--- what holds of all tables under their sets holds of a table under its own set
-pub table-at : (P : List ℕ → Contents → Type 0) (tables : List SetTable) (place : ℕ) (item : SetTable) → place < length tables → item ≡ get_or tables place item
-    → All (λ (table : SetTable). P table.set.items table.table) tables → P item.set.items item.table
-table-at P tables place item lt is h = subst (λ (t : SetTable). P t.set.items t.table) (sym is) (h place item lt)
-
--- and under the set for which it stands there
-pub table-of : (P : List ℕ → Contents → Type 0) (tables : List SetTable) (place : ℕ) (item : SetTable) (set : List ℕ) → place < length tables → item ≡ get_or tables place item
-    → ((d : SetTable) → (slice_index_or tables place d).set.items ≡ set) → All (λ (table : SetTable). P table.set.items table.table) tables → P set item.table
-table-of P tables place item set lt is at h =
-    subst (λ (s : List ℕ). P s item.table) (ap (λ (t : SetTable). t.set.items) is ∙ at item) (table-at P tables place item lt is h)
+-- the front of a list
+pub take-front : (n : ℕ) (xs ys : List Roll) → length xs ≡ n → take n (xs ++ ys) ≡ xs
+take-front zero [] ys e = refl
+take-front zero (x ∷ xs) ys e = absurd (omega (arith, e))
+take-front (suc n) [] ys e = absurd (omega (arith, e))
+take-front (suc n) (x ∷ xs) ys e = ap (λ rs. x ∷ rs) (take-front n xs ys (omega (arith, e)))
 
 -- ---- what rolling up and finishing keep
 
@@ -220,90 +127,111 @@ groups-kept set functions table groups records types (of_at_most most) h = tt
 abbrev pub of_few : Property
 of_few = of_at_most (2 ^ 63 - 1)
 
--- ---- sets in another order
-
-pub permuted : (xs ys zs : List (List ℕ)) → xs ≡ ys → IsPermutation xs zs → IsPermutation ys zs
-permuted xs ys zs e p = subst (λ (ls : List (List ℕ)). IsPermutation ls zs) e p
-
--- the set of the only table is made
-pub first-made : (set : List ℕ) (tables : List SetTable) (table : SetTable) → tables ≡ table ∷ [] → table.set.items ≡ set → IsMade set tables
-first-made set tables table is same none = (subst (λ (ts : List SetTable). All (λ (t : SetTable). t.set.items ≢ set) ts) is none) 0 table (omega arith) same
-
 -- ---- rolls
-
--- what is to become of a roll: where it has a table, that has under its set the properties that the others have
-abbrev pub IsRolledOutOf : List FilteredFunction → List SetTable → Roll → Type 0
-IsRolledOutOf functions tables roll = IfSome roll.table (IsOfSameRecords functions tables roll.set.items)
-
-abbrev IsOther : List ℕ → Roll → Type 0
-IsOther set roll = roll.set.items ≢ set
-
-any-rolled : (rolls : List Roll) (set : List ℕ) → list_any (λ (roll : Roll). pointwise nat_eq roll.set.items set) rolls ≡ true → AllByRecursion (IsOther set) rolls → ⊥
-any-rolled [] set h none = cc
-any-rolled (roll ∷ rolls) set h none =
-    elim (pointwise nat_eq roll.set.items set) as (λ b. pointwise nat_eq roll.set.items set ≡ b → (b || list_any (λ (r : Roll). pointwise nat_eq r.set.items set) rolls) ≡ true → ⊥) [
-      | true ↦ λ e g. none.0 ((same-Decides roll.set.items set (pointwise nat_eq roll.set.items set) refl).0 e)
-      | false ↦ λ e g. any-rolled rolls set g none.1
-    ] refl h
-
--- a set that one of the rolls is of has a roll
-pub rolled-there : (tables : List SetTable) (rolls : List Roll) (set : List ℕ) (b : Bool) → b ≡ list_any (λ (roll : Roll). pointwise nat_eq roll.set.items set) rolls → b ≡ true
-    → IsMadeOrRolled set tables rolls
-rolled-there tables rolls set b e h none others = any-rolled rolls set (sym e ∙ h) (recursion_from_All (IsOther set) rolls others)
-
--- and so has that of the last one
-pub rolled-last : (set : List ℕ) (tables : List SetTable) (rolls : List Roll) (roll : Roll) → roll.set.items ≡ set → IsMadeOrRolled set tables (rolls ++ roll ∷ [])
-rolled-last set tables rolls roll e none others = last (IsOther set) rolls roll (recursion_from_All (IsOther set) (rolls ++ roll ∷ []) others) e
-
--- where a roll comes to others, those that are there stay
-pub rolled-others : (set : List ℕ) (tables : List SetTable) (rolls : List Roll) (roll : Roll) → IsMadeOrRolled set tables rolls → IsMadeOrRolled set tables (rolls ++ roll ∷ [])
-rolled-others set tables rolls roll h none others =
-    h none (All-from_recursion (IsOther set) rolls (firsts (IsOther set) rolls (roll ∷ []) (recursion_from_All (IsOther set) (rolls ++ roll ∷ []) others)))
-
--- where the table of the first roll comes to others, no table and no roll is lost
-pub made-next : (set : List ℕ) (tables : List SetTable) (table : SetTable) (roll : Roll) (rolls : List Roll) → table.set.items ≡ roll.set.items
-    → IsMadeOrRolled set tables (roll ∷ rolls) → IsMadeOrRolled set (tables ++ table ∷ []) rolls
-made-next set tables table roll rolls e h none others =
-    let P : SetTable → Type 0 = λ x. x.set.items ≢ set in
-    let all = recursion_from_All P (tables ++ table ∷ []) none in
-    h (All-from_recursion P tables (firsts P tables (table ∷ []) all)) (All-cons (IsOther set) roll rolls (λ is. last P tables table all (e ∙ is)) others)
-
--- where no roll is left, all have tables
-pub made-all : (set : List ℕ) (tables : List SetTable) (rolls : List Roll) → rolls ≡ [] → IsMadeOrRolled set tables rolls → IsMade set tables
-made-all set tables rolls e h none = h none (subst (λ (rs : List Roll). All (IsOther set) rs) (sym e) (λ k d l. absurd (omega (arith, l))))
-
--- where the table of a set stands somewhere, it is there
-pub made-at : (set : List ℕ) (tables : List SetTable) (place : ℕ) → place < length tables → ((d : SetTable) → (slice_index_or tables place d).set.items ≡ set) → IsMade set tables
-made-at set [] place lt at none = omega (arith, lt)
-made-at set (table ∷ tables) place lt at none = none place table lt (at table)
-
--- the table of a roll has the properties of the others
-pub rolled-table : (functions : List FilteredFunction) (tables : List SetTable) (roll : Roll) (made : SetTable) → made.set.items ≡ roll.set.items → roll.table ≡ Some made.table
-    → IsRolledOutOf functions tables roll → IsOfSameRecords functions tables made.set.items made.table
-rolled-table functions tables roll made set table is =
-    subst (λ (s : List ℕ). IsOfSameRecords functions tables s made.table) (sym set)
-    (subst (λ (o : Option Contents). IfSome o (IsOfSameRecords functions tables roll.set.items)) table is)
 
 -- what holds of a value that may not have been made holds where it is kept
 pub some-of_ok : {A E : Type 0} (P : A → Type 0) (r : Result A E) → IfOk r P → IfSome (result_ok r) P
 some-of_ok P (Ok x) h = h
 some-of_ok P (Err e) h = tt
 
--- the front of a list
-pub take-front : (n : ℕ) (xs ys : List Roll) → length xs ≡ n → take n (xs ++ ys) ≡ xs
-take-front zero [] ys e = refl
-take-front zero (x ∷ xs) ys e = absurd (omega (arith, e))
-take-front (suc n) [] ys e = absurd (omega (arith, e))
-take-front (suc n) (x ∷ xs) ys e = ap (λ rs. x ∷ rs) (take-front n xs ys (omega (arith, e)))
-
 -- rolling changes no set
-pub rolled-same : (functions : List FilteredFunction) (set : List ℕ) (tables : List SetTable) (olds news : List Roll) → length news ≡ length olds → AreRolled functions tables olds news
-    → IsMadeOrRolled set tables olds → IsMadeOrRolled set tables news
-rolled-same functions set tables olds news n each h none others = h none (λ i d l e. others i d (omega (arith, l, n)) ((each i d l).0 ∙ e))
+pub sets-same : (functions : List FilteredFunction) (finer : SetTable) (olds news : List Roll) → length news ≡ length olds → AreRolled functions finer olds news
+    → sets_of_rolls news ≡ sets_of_rolls olds
+sets-same functions finer [] [] n each = refl
+sets-same functions finer [] (new ∷ news) n each = absurd (omega (arith, n))
+sets-same functions finer (old ∷ olds) [] n each = absurd (omega (arith, n))
+sets-same functions finer (old ∷ olds) (new ∷ news) n each =
+    let first = each 0 old (omega arith) in
+    let set : new.set.items ≡ old.set.items = first.0 in
+    let index : new.index ≡ old.index = first.1 in
+    let rest : sets_of_rolls news ≡ sets_of_rolls olds = sets-same functions finer olds news (omega (arith, n)) (λ i d l. each (suc i) d (omega (arith, l))) in
+    cc
 
--- what was rolled is what is to become of each roll
-pub rolled-each : (functions : List FilteredFunction) (tables : List SetTable) (olds news : List Roll) → length news ≡ length olds → AreRolled functions tables olds news
-    → All (IsRolledOutOf functions tables) news
-rolled-each functions tables olds news n each = λ i d l.
+-- what a roll has has a property, where it has a table
+abbrev pub HasPropertyWhereMade : Property → List FilteredFunction → Roll → Type 0
+HasPropertyWhereMade property functions roll = IfSome roll.table (HasProperty property roll.set.items functions)
+
+-- the tables of rolls have the properties of the table that they are rolled out of
+pub rolled-each : (functions : List FilteredFunction) (finer : SetTable) (olds news : List Roll) → length news ≡ length olds → AreRolled functions finer olds news
+    → (property : Property) → HasProperty property finer.set.items functions finer.table → All (HasPropertyWhereMade property functions) news
+rolled-each functions finer olds news n each property h = λ i d l.
     let roll = each i d (omega (arith, l, n)) in
-    subst (λ (s : List ℕ). IfSome (slice_index_or news i d).table (IsOfSameRecords functions tables s)) (sym roll.0) roll.1
+    subst (λ (s : List ℕ). IfSome (slice_index_or news i d).table (HasProperty property s functions)) (sym roll.0)
+    (IfSome_then (slice_index_or news i d).table roll.2 (λ table rolled. rolled property h))
+
+-- the table of a roll has what its roll has
+pub rolled-table : (property : Property) (functions : List FilteredFunction) (roll : Roll) (made : SetTable) → made.set.items ≡ roll.set.items → roll.table ≡ Some made.table
+    → HasPropertyWhereMade property functions roll → HasProperty property made.set.items functions made.table
+rolled-table property functions roll made set table h =
+    subst (λ (s : List ℕ). HasProperty property s functions made.table) (sym set)
+    (subst (λ (o : Option Contents). IfSome o (HasProperty property roll.set.items functions)) table h)
+
+-- one more table of the rolls
+pub sets-more : (tables : List SetTable) (made : SetTable) (roll : Roll) (rest : List Roll) → made.set.items ≡ roll.set.items → made.index ≡ Some roll.index
+    → sets_of_tables (tables ++ made ∷ []) ++ sets_of_rolls rest ≡ sets_of_tables tables ++ sets_of_rolls (roll ∷ rest)
+sets-more tables made roll rest set index =
+    ap (λ (sets : List ListedSet). sets ++ sets_of_rolls rest) (map_push listed_table tables made)
+    ∙ append_assoc (sets_of_tables tables) (listed_table made ∷ []) (sets_of_rolls rest)
+    ∙ ap₂ (λ (i : Option ℕ) (s : List ℕ). sets_of_tables tables ++ (i, s) ∷ sets_of_rolls rest) index set
+
+-- ---- the sets that wait at first
+
+-- a set that is read at an index stands there
+pub stands-new : (sets : List (Vec ℕ Global)) (item : Vec ℕ Global) (roll : Roll) → roll.index < length sets → item ≡ get_or sets roll.index item → roll.set.items ≡ item.items
+    → StandsAtIndex sets (listed_roll roll)
+stands-new sets item roll within is set = λ i other at.
+    subst (λ (n : ℕ). (n < length sets) × ((slice_index_or sets n other).items ≡ roll.set.items)) (same_Some roll.index i at)
+    (within, ap (λ (v : Vec ℕ Global). v.items) (sym (get_or_read sets roll.index item within is other)) ∙ sym set)
+
+-- where all sets below an index wait but one, and the set at the index waits or is that one, so do all up to it
+pub all-more : (made : Option ℕ) (index : ℕ) (olds news : List ListedSet) → ((i : ℕ) → i < index → NoneHasIndex i olds → made ≡ Some i)
+    → ((i : ℕ) → NoneHasIndex i news → NoneHasIndex i olds) → (NoneHasIndex index news → made ≡ Some index)
+    → (i : ℕ) → i < index + 1 → NoneHasIndex i news → made ≡ Some i
+all-more made index olds news below keeps here i within none = elim (i == index) as (λ b. (i == index) ≡ b → made ≡ Some i) [
+  | true ↦ λ e. let same : i ≡ index = grind (arith, e) in subst (λ (n : ℕ). NoneHasIndex n news → made ≡ Some n) (sym same) here none
+  | false ↦ λ e. below i (grind (arith, e, within)) (keeps i none)
+] refl
+
+pub same-option : (o : Option ℕ) (index : ℕ) → false ≡ not (option_eq eqb o (Some index)) → o ≡ Some index
+same-option None index h = cc
+same-option (Some i) index h = elim (eqb i index) as (λ b. eqb i index ≡ b → false ≡ not b → Some i ≡ Some index) [
+  | true ↦ λ e g. let same : i ≡ index = grind (arith, e) in ap Some same
+  | false ↦ λ e g. cc
+] refl h
+
+-- the set that comes last has its index
+pub last-index : (index i : ℕ) (sets : List ListedSet) (set : List ℕ) → NoneHasIndex i (sets ++ (Some index, set) ∷ []) → index ≡ i → ⊥
+last-index index i sets set none e = all-last (λ (other : ListedSet). other.0 ≢ Some i) sets (Some index, set) none (ap Some e)
+
+-- ---- the sets that are rolled out of a table, and those that wait on
+
+-- one more is rolled
+pub split-rolled : (waiting rolls left rest : List Roll) (roll : Roll) → IsPermutation waiting (rolls ++ (left ++ roll ∷ rest)) → IsPermutation waiting ((rolls ++ roll ∷ []) ++ (left ++ rest))
+split-rolled waiting rolls left rest roll h =
+    subst (IsPermutation waiting) (sym (append_assoc rolls (roll ∷ []) (left ++ rest)))
+    (IsPermutation-trans waiting (rolls ++ (left ++ roll ∷ rest)) (rolls ++ (roll ∷ (left ++ rest))) h
+    (IsPermutation-append_right rolls (left ++ roll ∷ rest) (roll ∷ (left ++ rest)) (IsPermutation-middle left roll rest)))
+
+-- one more waits on
+pub split-left : (waiting rolls left rest : List Roll) (roll : Roll) → IsPermutation waiting (rolls ++ (left ++ roll ∷ rest)) → IsPermutation waiting (rolls ++ ((left ++ roll ∷ []) ++ rest))
+split-left waiting rolls left rest roll h = subst (λ xs. IsPermutation waiting (rolls ++ xs)) (sym (append_assoc left (roll ∷ []) rest)) h
+
+-- what has a finer set keeps it where sets come
+pub finer-more : (set : List ℕ) (sets more : List ListedSet) → HasFiner set sets → HasFiner set (sets ++ more)
+finer-more set sets more h none = h (all-first (λ (other : ListedSet). AreAmong set other.1 → ⊥) sets more none)
+
+-- where a roll has all columns of a set, the set has a finer one
+pub finer-any : (set : List ℕ) (rolls : List Roll) → Any (λ (roll : Roll). AreAmong set roll.set.items) rolls → HasFiner set (sets_of_rolls rolls)
+finer-any set rolls any none =
+    all-unmap (λ (other : ListedSet). AreAmong set other.1 → ⊥) listed_roll rolls none any.0 any.1 any.2
+    (subst (λ (roll : Roll). AreAmong set roll.set.items) (sym any.3) any.4)
+
+-- what waits, since a set that is rolled or another one that was chosen has its columns
+abbrev pub WaitsOn : List ℕ → List Roll → Roll → Type 0
+WaitsOn finer rolls roll = AreAmong roll.set.items finer → HasFiner roll.set.items (sets_of_rolls rolls)
+
+-- it waits on where one more is rolled
+pub waits-more : (finer : List ℕ) (rolls : List Roll) (more : Roll) (left : List Roll) → All (WaitsOn finer rolls) left → All (WaitsOn finer (rolls ++ more ∷ [])) left
+waits-more finer rolls more left h =
+    All-weaker (WaitsOn finer rolls) (WaitsOn finer (rolls ++ more ∷ []))
+    (λ roll waits among. subst (HasFiner roll.set.items) (sym (map_push listed_roll rolls more)) (finer-more roll.set.items (sets_of_rolls rolls) (listed_roll more ∷ []) (waits among))) left h

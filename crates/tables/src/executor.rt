@@ -1,9 +1,10 @@
 //! Who begins, merges, rolls up and finishes tables of groups.
 ghost use Rattle.std.specs.Prelude.{◌≡◌, ◌<◌, ◌⊎◌, ◌+◌, All, ℕ, IfOk, List};
 ghost use Rattle.std.specs.FinMap as fin;
-ghost use Rattle.tables_groups.specs.Inside.Table.{AreGroupsOfTable, AreGroupsWithin, CanJoin, IsOfNone, IsUnionOf};
+ghost use Rattle.tables_groups.specs.Inside.Table.{AreGroupsOfTable, AreGroupsWithin, CanJoin, HasFewRecords, IsOfNone, IsUnionOf};
 ghost use Rattle.tables_groups.specs.Inside.Typed.{HaveTypesOfTable};
-ghost use Rattle.tables.specs.SetTables.{AreOfFew, AreRolled, HasFiner, HasRolled, set_of_roll};
+ghost use Rattle.tables_groups.specs.Rolled.{AreAmong};
+ghost use Rattle.tables.specs.SetTables.{AreRolled, HasRolled, set_of_roll};
 ghost use Rattle.tables.specs.Sound.{HasGroupsOfEither};
 ghost use Rattle.query_resolve.specs.declared.function.FilteredFunction.{FilteredFunction};
 
@@ -86,18 +87,17 @@ pub trait Executor {
             → AreGroupsWithin (m + n) functions table) }
         ensures groups { IfOk result (HasGroupsOfEither first second) };
 
-    /// Makes the tables of some rolls, each out of one of these tables, and leaves no table in a roll where there was no
-    /// memory for it.
+    /// Makes the tables of some rolls, each out of this table, and leaves no table in a roll where there was no memory for
+    /// it.
     ///
-    /// These are tables for these set functions, each of fewer than 2^63 records, and of each roll one of them has the
-    /// columns of its set.
+    /// This is a table for these set functions, of fewer than 2^63 records, and has the columns of the set of each roll.
     ///
     /// Example: out of the table of the set of two columns come, by two rolls, those of the one and of the other.
-    fn roll_each(&self, tables: &[SetTable], rolls: &mut [Roll], functions: &[FilteredFunction])
+    fn roll_each(&self, finer: &SetTable, rolls: &mut [Roll], functions: &[FilteredFunction])
         requires ready { Self.ready self.now }
-        requires few { AreOfFew functions.now tables.now }
-        requires finer { All (λ roll. HasFiner (set_of_roll roll) tables.now) rolls.old }
-        ensures rolled { AreRolled functions.now tables.now rolls.old rolls.new };
+        requires few { HasFewRecords functions.now finer.now.table }
+        requires among { All (λ roll. AreAmong (set_of_roll roll) finer.now.set.items) rolls.old }
+        ensures rolled { AreRolled functions.now finer.now rolls.old rolls.new };
 
     /// The groups of a table, as `Table::finish` gives them, in no order that is said.
     ///
@@ -152,9 +152,9 @@ impl Executor for Serial {
         Ok(larger)
     }
 
-    fn roll_each(&self, tables: &[SetTable], rolls: &mut [Roll], functions: &[FilteredFunction]) {
+    fn roll_each(&self, finer: &SetTable, rolls: &mut [Roll], functions: &[FilteredFunction]) {
         for place in 0..rolls.len() {
-            rolls[place].roll(tables, functions);
+            rolls[place].roll(finer, functions);
         }
     }
 
@@ -214,17 +214,17 @@ impl<'a, H: Threads + Sync> Executor for Parallel<'a, H> {
         Ok(larger)
     }
 
-    fn roll_each(&self, tables: &[SetTable], rolls: &mut [Roll], functions: &[FilteredFunction]) {
+    fn roll_each(&self, finer: &SetTable, rolls: &mut [Roll], functions: &[FilteredFunction]) {
         thread::for_each_mut(
             self.rt,
             rolls,
             self.workers,
             &|_place: usize, roll: &mut Roll|
-                requires { AreOfFew functions.now tables.now
-                    × HasFiner roll.now.set.items tables.now }
-                ensures { HasRolled functions.entry.now tables.entry.now roll.entry.now
+                requires { HasFewRecords functions.now finer.now.table
+                    × AreAmong roll.now.set.items finer.now.set.items }
+                ensures { HasRolled functions.entry.now finer.entry.now roll.entry.now
                     roll.exit.now }
-            { roll.roll(tables, functions) },
+            { roll.roll(finer, functions) },
         );
     }
 

@@ -7,6 +7,6 @@ use Rattle.tables.proofs.executor.SerialExecutor.roll_each.Given as goal
 abbrev pub invariant-loop-place : goal.invariant-loop-place
 invariant-loop-place l = record {
   many : length l.rolls ≡ length l.fn.rolls;
-  rolled : (i : ℕ) (d : Roll) → i < l.place → HasRolled l.functions l.tables (slice_index_or l.fn.rolls i d) (slice_index_or l.rolls i d);
+  rolled : (i : ℕ) (d : Roll) → i < l.place → HasRolled l.functions l.finer (slice_index_or l.fn.rolls i d) (slice_index_or l.rolls i d);
   left : (i : ℕ) (d : Roll) → l.place ≤ i → slice_index_or l.rolls i d ≡ slice_index_or l.fn.rolls i d;
 }
