@@ -216,10 +216,10 @@ abbrev noted : ℕ → ℕ → List (ℕ × LineFault) → Noted
 noted index count found = record { index = index; lines = count; refused = found }
 
 pub followed-note : (fields : List Field) (input : List ℕ) (notes : List PieceRefusals) (note : PieceRefusals) → notes ≡ note ∷ [] → note.index ≡ 0 → note.lines ≡ length (lines input)
-    → note.refused.items ≡ refused_lines fields input → SameBag (map (note_of fields) (whole_piece input)) (map note_in notes)
+    → note.refused ≡ refused_lines fields input → SameBag (map (note_of fields) (whole_piece input)) (map note_in notes)
 followed-note fields input notes note is first count found =
     let same : note_in note ≡ noted 0 (length (lines input)) (refused_lines fields input) =
-    ap (λ index. noted index note.lines note.refused.items) first ∙ ap (λ n. noted 0 n note.refused.items) count ∙ ap (noted 0 (length (lines input))) found in
+    ap (λ index. noted index note.lines note.refused) first ∙ ap (λ n. noted 0 n note.refused) count ∙ ap (noted 0 (length (lines input))) found in
     subst (λ (ns : List Noted). SameBag (map (note_of fields) (whole_piece input)) ns) (sym (ap (map note_in) is ∙ ap (λ n. n ∷ []) same)) (λ f. refl)
 
 -- ---- an input as one piece
@@ -250,7 +250,7 @@ some-line b bytes = some-parts b (b == line_feed) (slice_split (λ x. x == line_
 -- the notes of an input as one piece: there is one where there is a line, and else none
 abbrev AreOneNote : ℕ → List (ℕ × LineFault) → List PieceRefusals → Type 0
 AreOneNote count found notes =
-    (count ≡ 0 → notes ≡ []) × (0 < count → (note : PieceRefusals) × (note.index ≡ 0) × (note.lines ≡ count) × (note.refused.items ≡ found) × (notes ≡ note ∷ []))
+    (count ≡ 0 → notes ≡ []) × (0 < count → (note : PieceRefusals) × (note.index ≡ 0) × (note.lines ≡ count) × (note.refused ≡ found) × (notes ≡ note ∷ []))
 
 pub one-noted : (fields : List Field) (input : List ℕ) (pieces : List IndexedPiece) (count : ℕ) (found : List (ℕ × LineFault)) (notes : List PieceRefusals) → IsCutInto input pieces
     → count ≡ length (all_lines pieces) → found ≡ refused_lines fields input → AreOneNote count found notes → SameBag (map (note_of fields) (one_piece input)) (map note_in notes)

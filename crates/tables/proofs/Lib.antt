@@ -22,6 +22,8 @@ pub mod Bags
 pub mod Bound
 pub mod Taken
 pub mod Following
+pub mod InOrder
+pub mod Runs
 pub mod Growing
 pub mod Denotations
 pub mod Sharing

@@ -134,11 +134,12 @@ refused-numbers fields ls = All-from_recursion (λ line. line.0 ≤ length ls) (
 -- behind these records no line has been read
 pub nothing-read : (fields : List Field) (q : TreeForm) (before : List Row) (table : Contents) (folding : Folding)
     → IsTableOf (grouping_places fields q) (aggregate_functions fields q) table (kept_records fields q before)
-    → folding.table ≡ table → folding.lines ≡ 0 → folding.refused.items ≡ [] → HasRead fields q before folding []
-nothing-read fields q before table folding held same none nothing = record {
+    → folding.table ≡ table → folding.lines ≡ 0 → folding.refused ≡ 0 → folding.refusals ≡ [] → HasRead fields q before folding []
+nothing-read fields q before table folding held same none nobody nothing = record {
   table = subst (λ (t : Contents). IsTableOf (grouping_places fields q) (aggregate_functions fields q) t (kept_records fields q (before ++ []))) (sym same)
       (subst (λ (rows : List Row). IsTableOf (grouping_places fields q) (aggregate_functions fields q) table (kept_records fields q rows)) (sym (append-nil before)) held);
   lines = none;
+  count = nobody;
   refused = nothing;
 }
 
@@ -152,23 +153,25 @@ pub record HasReadSome (fields : List Field) (q : TreeForm) (before : List Row) 
 
 pub read-ok : (fields : List Field) (q : TreeForm) (before : List Row) (old new : Folding) (seen : List (List ℕ)) (line : List ℕ) (row : List Datum) → decode_line fields line ≡ Ok row → HasRead fields q before old seen
     → ((rows : List (List Datum)) → IsTableOf (grouping_places fields q) (aggregate_functions fields q) old.table (kept_records fields q rows) → IsTableOf (grouping_places fields q) (aggregate_functions fields q) new.table (kept_records fields q (rows ++ row ∷ [])))
-    → new.lines ≡ old.lines → new.refused.items ≡ old.refused.items
-    → HasRead fields q before (record { table = new.table; lines = new.lines + 1; refused = new.refused; marks = new.marks }) (seen ++ line ∷ [])
-read-ok fields q before old new seen line row e h added same stay = record {
+    → new.lines ≡ old.lines → new.refused ≡ old.refused → new.refusals ≡ old.refusals
+    → HasRead fields q before (record { table = new.table; lines = new.lines + 1; refused = new.refused; refusals = new.refusals; marks = new.marks }) (seen ++ line ∷ [])
+read-ok fields q before old new seen line row e h added same count stay = record {
   table = subst (λ (rows : List (List Datum)). IsTableOf (grouping_places fields q) (aggregate_functions fields q) new.table (kept_records fields q rows))
       (append_assoc before (valid_records_of fields seen) (row ∷ []) ∙ ap (λ rows. before ++ rows) (sym (valid-ok fields seen line row e)))
       (added (before ++ valid_records_of fields seen) h.table);
   lines = (let a = h.lines in let b = length-append seen (line ∷ []) in omega (arith, same, a, b));
+  count = count ∙ h.count ∙ ap length (sym (refused-ok fields seen line row e));
   refused = stay ∙ h.refused ∙ sym (refused-ok fields seen line row e);
 }
 
 pub read-err : (fields : List Field) (q : TreeForm) (before : List Row) (old new : Folding) (seen : List (List ℕ)) (line : List ℕ) (fault : LineFault) → decode_line fields line ≡ Err fault → HasRead fields q before old seen
-    → new.table ≡ old.table → new.lines ≡ old.lines → new.refused.items ≡ old.refused.items ++ (old.lines + 1, fault) ∷ []
-    → HasRead fields q before (record { table = new.table; lines = new.lines + 1; refused = new.refused; marks = new.marks }) (seen ++ line ∷ [])
-read-err fields q before old new seen line fault e h stay same more = record {
+    → new.table ≡ old.table → new.lines ≡ old.lines → new.refused ≡ old.refused + 1 → new.refusals ≡ old.refusals ++ (old.lines + 1, fault) ∷ []
+    → HasRead fields q before (record { table = new.table; lines = new.lines + 1; refused = new.refused; refusals = new.refusals; marks = new.marks }) (seen ++ line ∷ [])
+read-err fields q before old new seen line fault e h stay same one more = record {
   table = subst (λ (t : Contents). IsTableOf (grouping_places fields q) (aggregate_functions fields q) t (kept_records fields q (before ++ valid_records_of fields (seen ++ line ∷ [])))) (sym stay)
       (subst (λ (rows : List (List Datum)). IsTableOf (grouping_places fields q) (aggregate_functions fields q) old.table (kept_records fields q (before ++ rows))) (sym (valid-err fields seen line fault e)) h.table);
   lines = (let a = h.lines in let b = length-append seen (line ∷ []) in omega (arith, same, a, b));
+  count = (let a = h.count in let b = ap length (refused-err fields seen line fault e) in let d = length-append (refused_lines_of fields seen) ((length seen + 1, fault) ∷ []) in omega (arith, one, a, b, d));
   refused = more ∙ ap (λ rs. rs ++ (old.lines + 1, fault) ∷ []) h.refused ∙ ap (λ n. refused_lines_of fields seen ++ (n + 1, fault) ∷ []) h.lines ∙ sym (refused-err fields seen line fault e);
 }
 

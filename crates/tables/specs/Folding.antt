@@ -27,7 +27,8 @@ refused_lines_of fields ls = filter_map (λ p. option_map (λ fault. (p.0, fault
 pub record HasRead (fields : List Field) (q : TreeForm) (before : List Row) (folding : Folding) (ls : List (List ℕ)) : Type 0 where
   pub table : IsTableOf (grouping_places fields q) (aggregate_functions fields q) folding.table (kept_records fields q (before ++ valid_records_of fields ls))
   pub lines : folding.lines ≡ length ls
-  pub refused : folding.refused.items ≡ refused_lines_of fields ls
+  pub count : folding.refused ≡ length (refused_lines_of fields ls)
+  pub refused : folding.refusals ≡ refused_lines_of fields ls
 
 -- some lines have been read, and with one more there are, with the records of earlier pieces, fewer than 2^63
 pub record ReadsOneMore (fields : List Field) (q : TreeForm) (folding : Folding) : Type 0 where

@@ -24,7 +24,7 @@ note_of fields piece = record { index = piece.index; lines = length (lines piece
 -- ---- in the code
 
 abbrev pub note_in : PieceRefusals → Noted
-note_in note = record { index = note.index; lines = note.lines; refused = note.refused.items }
+note_in note = record { index = note.index; lines = note.lines; refused = note.refused }
 
 abbrev pub notes_in : Vec PieceRefusals → List Noted
 notes_in notes = map note_in notes.items

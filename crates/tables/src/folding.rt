@@ -5,7 +5,8 @@ ghost use Rattle.semantics.specs.Groups.{Row};
 ghost use Rattle.tables.specs.Folding.{HasReadUnder, HasRoomUnder, IsTableOfKept, refused_lines_of};
 
 use crate::executor::Executor;
-use lines::{Line, LineFault, LineRefusal, RecordReader, checked_lines_of};
+use crate::refusals::Refusals;
+use lines::{Line, LineRefusal, RecordReader, checked_lines_of};
 use query_plan::{Plan, holds};
 use std::alloc::{AllocError, Global};
 use tables_groups::Table;
@@ -18,8 +19,10 @@ pub(crate) struct Folding {
     pub(crate) table: Table,
     /// The number of lines.
     pub(crate) lines: u64,
-    /// The refused lines by their numbers, from 1.
-    pub(crate) refused: Vec<(u64, LineFault)>,
+    /// The number of the refused ones.
+    pub(crate) refused: u64,
+    /// These by their numbers, from 1.
+    pub(crate) refusals: Refusals,
     /// Of the record that was kept last, which filters of the query keep it. It is written over for each.
     marks: Vec<bool>,
 }
@@ -35,12 +38,14 @@ impl Folding {
     fn begin(alloc: Global, table: Table) -> Folding
         ensures table { result.table ≡ table }
         ensures lines { result.lines ≡ 0 }
-        ensures refused { result.refused.items ≡ [] }
+        ensures refused { result.refused ≡ 0 }
+        ensures refusals { result.refusals ≡ [] }
     {
         Folding {
             table,
             lines: 0,
-            refused: Vec::new(alloc),
+            refused: 0,
+            refusals: Refusals::new(alloc),
             marks: Vec::new(alloc),
         }
     }
@@ -62,7 +67,10 @@ impl Folding {
                 self.take(plan, &taken)?;
                 reader.give_back(taken);
             }
-            Err(LineRefusal::Fault(fault)) => self.refused.push((self.lines + 1, fault))?,
+            Err(LineRefusal::Fault(fault)) => {
+                self.refusals.push(self.lines + 1, fault)?;
+                self.refused += 1;
+            }
             Err(LineRefusal::Memory) => return Err(AllocError),
         }
         self.lines += 1;
@@ -76,7 +84,8 @@ impl Folding {
         ensures table { OnOk result ((rows : List Row) → IsTableOfKept plan.now self.old.table rows
             → IsTableOfKept plan.now self.new.table (rows ++ taken.now ∷ [])) }
         ensures lines { self.new.lines ≡ self.old.lines }
-        ensures refused { self.new.refused.items ≡ self.old.refused.items }
+        ensures refused { self.new.refused ≡ self.old.refused }
+        ensures refusals { self.new.refusals ≡ self.old.refusals }
     {
         if holds(plan, taken).is(Truth::True) {
             plan.mark_filters(taken, &mut self.marks)?;
@@ -125,10 +134,9 @@ pub(crate) fn read_onto(
         → HasReadUnder plan.now before folding (lines piece.now)) }
     ensures lines { IfOk result (λ folding. folding.lines ≡ length (lines piece.now)) }
     ensures refused { IfOk result (λ folding.
-        length folding.refused.items
-        ≡ length (refused_lines_of plan.now.fields (lines piece.now))) }
+        folding.refused ≡ length (refused_lines_of plan.now.fields (lines piece.now))) }
     ensures numbered { IfOk result (λ folding.
-        All (λ line. line.0 ≤ folding.lines) folding.refused.items) }
+        All (λ line. line.0 ≤ folding.lines) folding.refusals) }
 {
     let mut folding = Folding::begin(alloc, table);
     let mut reader = RecordReader::new(alloc);

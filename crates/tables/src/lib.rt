@@ -12,6 +12,7 @@ mod laws;
 mod numbering;
 mod partial;
 mod piece_refusals;
+mod refusals;
 mod rolling;
 mod rows;
 mod shape;

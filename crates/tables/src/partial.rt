@@ -10,8 +10,9 @@ use crate::executor::{Executor, Serial};
 use crate::folding::{Folding, empty_table, piece_table, read_onto};
 use crate::grouped::Groups;
 use crate::laws::members_law;
-use crate::numbering::{number, number_behind, put_behind};
+use crate::numbering::{gather, gather_behind, number};
 use crate::piece_refusals::PieceRefusals;
+use crate::refusals::Refusals;
 use crate::rows::rows_of;
 use crate::shape::Shape;
 use group_states::GroupEntry;
@@ -188,15 +189,15 @@ impl Partial {
             table,
             lines,
             refused,
+            refusals,
             ..
         } = read_onto(alloc, plan, empty, piece)?;
-        let count = refused.len() as u64;
         let notes = one_note(
             alloc,
             PieceRefusals {
                 index,
                 lines,
-                refused,
+                refused: refusals,
             },
         )?;
         Ok(Partial {
@@ -204,7 +205,7 @@ impl Partial {
             shape,
             table,
             lines,
-            refused: count,
+            refused,
             notes,
         })
     }
@@ -236,18 +237,17 @@ impl Partial {
             mut notes,
         } = self;
         let folding = read_onto(alloc, plan, table, piece)?;
-        let more = folding.refused.len() as u64;
         notes.push(PieceRefusals {
             index,
             lines: folding.lines,
-            refused: folding.refused,
+            refused: folding.refusals,
         })?;
         Ok(Partial {
             alloc,
             shape,
             table: folding.table,
             lines: lines + folding.lines,
-            refused: refused + more,
+            refused: refused + folding.refused,
             notes,
         })
     }
@@ -409,14 +409,14 @@ impl Partial {
         drop(rest_shape);
         let lines = before + rest_lines;
         let merged = executor.merge_tables(table, rest_table)?;
-        let mut numbered = number(alloc, notes)?;
-        number_behind(&mut numbered, before, rest_notes)?;
+        let mut gathered = gather(alloc, notes)?;
+        gather_behind(&mut gathered, before, rest_notes)?;
         let notes = one_note(
             alloc,
             PieceRefusals {
                 index: 0,
                 lines,
-                refused: numbered,
+                refused: gathered,
             },
         )?;
         Ok(Partial {
@@ -454,16 +454,16 @@ impl Partial {
             refused,
             notes,
         } = self;
-        let mut numbered = number(alloc, notes)?;
+        let mut gathered = gather(alloc, notes)?;
         let folding = read_onto(alloc, plan, table, rest)?;
-        put_behind(&mut numbered, before, folding.refused.as_slice())?;
+        gathered.put_behind(before, &folding.refusals)?;
         let lines = before + folding.lines;
         let notes = one_note(
             alloc,
             PieceRefusals {
                 index: 0,
                 lines,
-                refused: numbered,
+                refused: gathered,
             },
         )?;
         Ok(Partial {
@@ -471,7 +471,7 @@ impl Partial {
             shape,
             table: folding.table,
             lines,
-            refused: refused + folding.refused.len() as u64,
+            refused: refused + folding.refused,
             notes,
         })
     }
@@ -501,8 +501,8 @@ impl Partial {
             refused,
             notes,
         } = self;
-        let numbered = number(alloc, notes)?;
-        let notes = note_if_any(alloc, lines, numbered)?;
+        let gathered = gather(alloc, notes)?;
+        let notes = note_if_any(alloc, lines, gathered)?;
         Ok(Partial {
             alloc,
             shape,
@@ -555,12 +555,12 @@ impl Partial {
             shape,
             table,
             lines: _,
-            refused: _,
+            refused,
             notes,
         } = self;
         drop(shape);
         let rows = rows_of(alloc, executor, plan, table)?;
-        let refused = number(alloc, notes)?;
+        let refused = number(alloc, refused, notes)?;
         members_law();
         Ok(Groups::new(rows, refused))
     }
@@ -611,11 +611,11 @@ impl Partial {
             shape,
             table,
             lines,
-            refused: _,
+            refused,
             notes,
         } = self;
         drop(shape);
-        let refused_lines = number(alloc, notes)?;
+        let refused_lines = number(alloc, refused, notes)?;
         let groups = table.into_entries()?;
         entries_law();
         Ok(PartialContents {
@@ -654,12 +654,14 @@ impl Partial {
         let shape = Shape::of(alloc, plan)?;
         let table = executor.table_without_groups(alloc)?;
         let count = refused.len() as u64;
+        let refusals = Refusals::of(alloc, refused.as_slice())?;
+        drop(refused);
         let notes = one_note(
             alloc,
             PieceRefusals {
                 index: 0,
                 lines,
-                refused,
+                refused: refusals,
             },
         )?;
         Ok(Partial {
@@ -729,12 +731,12 @@ fn one_note(alloc: Global, note: PieceRefusals) -> Result<Vec<PieceRefusals>, Al
 fn note_if_any(
     alloc: Global,
     lines: u64,
-    refused: Vec<(u64, LineFault)>,
+    refused: Refusals,
 ) -> Result<Vec<PieceRefusals>, AllocError>
     ensures none { lines ≡ 0 → IfOk result (λ notes. notes.items ≡ []) }
     ensures some { 0 < lines
         → IfOk result (λ notes. (note : PieceRefusals) × (note.index ≡ 0) × (note.lines ≡ lines)
-        × (note.refused.items ≡ refused.items) × (notes.items ≡ note ∷ [])) }
+        × (note.refused ≡ refused) × (notes.items ≡ note ∷ [])) }
 {
     if lines == 0 {
         return Ok(Vec::new(alloc));

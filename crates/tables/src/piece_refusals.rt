@@ -1,5 +1,5 @@
 //! The refused lines of a piece.
-use lines::LineFault;
+use crate::refusals::Refusals;
 
 /// The refused lines of a piece, and how many lines it has: what is kept of it beside its groups.
 #[derive(Drop)]
@@ -9,5 +9,5 @@ pub(crate) struct PieceRefusals {
     /// The number of its lines.
     pub(crate) lines: u64,
     /// Its refused lines, by their numbers within it, from 1, ascending.
-    pub(crate) refused: Vec<(u64, LineFault)>,
+    pub(crate) refused: Refusals,
 }

@@ -18,7 +18,7 @@ few before seen rest all line e short =
 pub loop-line-init : goal.loop-line-init
 loop-line-init c = λ before held. record {
   seen = [];
-  has_read = nothing-read c.args.plan.now.fields c.args.plan.now.query before c.args.table c.begin-folding.result held c.begin-folding.ensures.table c.begin-folding.ensures.lines c.begin-folding.ensures.refused;
+  has_read = nothing-read c.args.plan.now.fields c.args.plan.now.query before c.args.table c.begin-folding.result held c.begin-folding.ensures.table c.begin-folding.ensures.lines c.begin-folding.ensures.refused c.begin-folding.ensures.refusals;
   is = c.into_iter-line-iterator.ensures.into_iter_gives ∙ c.checked_lines_of-line-items.ensures;
 }
 
@@ -54,9 +54,9 @@ pub returns-clause-lines : goal.returns-clause-lines
 returns-clause-lines c = ∥∥₁_elim c.requires (ℕ_set _ _) (λ r. (returns-clause-read c r.before r.is_table).lines)
 
 pub returns-clause-refused : goal.returns-clause-refused
-returns-clause-refused c = ∥∥₁_elim c.requires (ℕ_set _ _) (λ r. ap length (returns-clause-read c r.before r.is_table).refused)
+returns-clause-refused c = ∥∥₁_elim c.requires (ℕ_set _ _) (λ r. (returns-clause-read c r.before r.is_table).count)
 
 pub returns-clause-numbered : goal.returns-clause-numbered
 returns-clause-numbered c = ∥∥₁_elim c.requires (hlevel props) (λ r.
     let read = returns-clause-read c r.before r.is_table in
-    well-numbered c.args.plan.now.fields c.loop-line.folding.lines c.loop-line.folding.refused.items (lines c.args.piece.now) read.lines read.refused)
+    well-numbered c.args.plan.now.fields c.loop-line.folding.lines c.loop-line.folding.refusals (lines c.args.piece.now) read.lines read.refused)

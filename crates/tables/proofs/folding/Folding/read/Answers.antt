@@ -12,7 +12,7 @@ use Rattle.semantics.specs.Aggregates.{AggregateFunction}
 use Rattle.tables_groups.specs.Inside.Table.{IsTableOf}
 use Rattle.tables.specs.Functions.{filter_tests}
 use Rattle.tables.proofs.Bound.{bound-functions}
-use Rattle.tables.proofs.Reading.{length-kept_behind, read-err, read-ok}
+use Rattle.tables.proofs.Reading.{length-kept_behind, length-refused_of, read-err, read-ok}
 use Rattle.tables.proofs.folding.Folding.read.Goals as goal
 use Rattle.tables.proofs.folding.Folding.read.Goals.{in-Ok+in_ok-take-in-Ok, in-Err-Fault+in_ok-push-in-Err-Fault}
 
@@ -30,6 +30,12 @@ take-requires-clause-room c =
 pub overflow_add-self : goal.overflow_add-self
 overflow_add-self c = ∥∥₁_elim c.requires (Fits-prop _ _) (λ r. omega (arith, r.has_read.lines, r.few))
 
+-- no more are refused than are read
+pub overflow_add-self-in-Err-Fault : goal.overflow_add-self-in-Err-Fault
+overflow_add-self-in-Err-Fault c = ∥∥₁_elim c.requires (Fits-prop _ _) (λ r.
+    let fewer = length-refused_of c.args.plan.now.fields r.seen in
+    omega (arith, fewer, r.has_read.count, r.few))
+
 pub overflow_add-self-2 : goal.overflow_add-self-2
 overflow_add-self-2 c =
     let same : c.match-read_line.self.lines ≡ c.args.self.now.lines = elim c.match-read_line.branch [
@@ -45,13 +51,13 @@ returns c = λ before seen h.
     let line = line_bytes c.args.line in
     elim c.match-read_line.branch [
       | in-Ok+in_ok-take-in-Ok w ↦
-          subst (λ (f : Folding). HasRead fields q before (record { table = f.table; lines = f.lines + 1; refused = f.refused; marks = f.marks }) (seen ++ line ∷ [])) (sym w.self-is)
+          subst (λ (f : Folding). HasRead fields q before (record { table = f.table; lines = f.lines + 1; refused = f.refused; refusals = f.refusals; marks = f.marks }) (seen ++ line ∷ [])) (sym w.self-is)
           (read-ok fields q before c.args.self.now w.take.new.self seen line w.in-Ok.taken
           (ap (λ fs. decode_line fs line) (sym c.schema.ensures.schema) ∙ w.in-Ok.ensures.ok) h
-          w.in_ok-take-in-Ok.ensures.table w.in_ok-take-in-Ok.ensures.lines w.in_ok-take-in-Ok.ensures.refused)
+          w.in_ok-take-in-Ok.ensures.table w.in_ok-take-in-Ok.ensures.lines w.in_ok-take-in-Ok.ensures.refused w.in_ok-take-in-Ok.ensures.refusals)
       | in-Err-Fault+in_ok-push-in-Err-Fault w ↦
           read-err fields q before c.args.self.now c.match-read_line.self seen line w.in-Err-Fault.fault
           (ap (λ fs. decode_line fs line) (sym c.schema.ensures.schema) ∙ subst (λ (r : LineRefusal). IsRefusal r (decode_line c.schema.result.now line)) w.in-Err-Fault.field-0-is w.in-Err-Fault.ensures.refused) h
           (ap (λ (f : Folding). f.table) w.self-is) (ap (λ (f : Folding). f.lines) w.self-is)
-          (ap (λ (f : Folding). f.refused.items) w.self-is ∙ w.in_ok-push-in-Err-Fault.ensures.items)
+          (ap (λ (f : Folding). f.refused) w.self-is) (ap (λ (f : Folding). f.refusals) w.self-is ∙ w.in_ok-push-in-Err-Fault.ensures)
     ]

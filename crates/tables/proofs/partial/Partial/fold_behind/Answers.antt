@@ -1,7 +1,6 @@
-use Rattle.std.proofs.Common.{◌≡◌, ◌+◌, ◌≤◌, ◌++◌, List, All, length, map, sym, ap, subst, ◌∙◌, arith}
+use Rattle.std.proofs.Common.{◌≡◌, ◌+◌, ◌≤◌, ◌++◌, List, All, sym, ap, subst, arith}
 use Rattle.std.proofs.Math.Logic.{∥∥₁_elim, ∥∥₁_map}
 use Rattle.std.proofs.Props.{props}
-use Rattle.std.proofs.lemmas.List.Elements.{All-same}
 use Rattle.semantics.specs.Lines.{lines}
 use Rattle.semantics.specs.Groups.{Row}
 use Rattle.tables_groups.specs.Inside.Table.{IsCounted, IsTableOf}
@@ -21,11 +20,11 @@ use Rattle.tables.proofs.Merging.{one-note}
 use Rattle.tables.proofs.Reading.{length-kept_behind, length-refused_of}
 use Rattle.tables.proofs.partial.Partial.fold_behind.Goals as goal
 
-pub number-requires-clause-few : goal.number-requires-clause-few
-number-requires-clause-few c = let counted = c.self.inside.counted in let few = c.self.inside.few in omega (arith, counted, few)
+pub gather-requires-clause-few : goal.gather-requires-clause-few
+gather-requires-clause-few c = let counted = c.self.inside.counted in let few = c.self.inside.few in omega (arith, counted, few)
 
-pub number-requires-clause-numbered : goal.number-requires-clause-numbered
-number-requires-clause-numbered c = c.self.inside.numbered
+pub gather-requires-clause-numbered : goal.gather-requires-clause-numbered
+gather-requires-clause-numbered c = c.self.inside.numbered
 
 pub read_onto-requires : goal.read_onto-requires
 read_onto-requires c =
@@ -43,14 +42,23 @@ put_behind-requires c =
     let same : c.self.inside.lines ≡ c.args.self.lines = ap (λ (v : PartialState). v.lines) c.self.view_is in
     let read = c.in_ok-folding.ensures in
     let count = read.lines in
-    let here : All (λ line. line.0 ≤ folding.lines) c.as_slice.result.now = All-same (λ line. line.0 ≤ folding.lines) _ folding.refused.items c.as_slice.ensures.value read.numbered in
-    λ k d l. let w = here k d l in omega (arith, w, count, same, c.requires.few)
+    λ k d l. let w = read.numbered k d l in omega (arith, w, count, same, c.requires.few)
 
 pub overflow_add-lines : goal.overflow_add-lines
 overflow_add-lines c =
     let same : c.self.inside.lines ≡ c.args.self.lines = ap (λ (v : PartialState). v.lines) c.self.view_is in
     let count = c.in_ok-folding.ensures.lines in
     omega (arith, count, same, c.requires.few)
+
+pub overflow_add-result : goal.overflow_add-result
+overflow_add-result c =
+    let same : c.self.inside.lines ≡ c.args.self.lines = ap (λ (v : PartialState). v.lines) c.self.view_is in
+    let read = c.in_ok-folding.ensures in
+    let count = read.lines in
+    let listed = read.refused in
+    let fewer = c.self.inside.fewer in
+    let m = length-refused_of c.args.plan.now.fields (lines c.args.rest.now) in
+    omega (arith, listed, m, count, fewer, same, c.requires.few)
 
 pub invariant_of-result : goal.invariant_of-result
 invariant_of-result c =
@@ -63,15 +71,13 @@ invariant_of-result c =
     let read = c.in_ok-folding.ensures in
     let count = read.lines in
     let listed = read.refused in
-    let found = c.in_ok-numbered.numbered.items in
-    let low : All (λ line. line.0 ≤ self.lines) found = subst (λ n. All (λ line. line.0 ≤ n) found) self.counted (lines-within (notes_in self.notes) found self.numbered c.in_ok-numbered.ensures) in
-    let behind = c.in_ok-put_behind.ensures ∙ ap (λ ls. found ++ map (λ line. (self.lines + line.0, line.1)) ls) c.as_slice.ensures.value in
-    let within = numbers-behind self.lines folding.lines found folding.refused.items c.put_behind.new.numbered.items low read.numbered behind in
+    let found = c.in_ok-gathered.gathered in
+    let low : All (λ line. line.0 ≤ self.lines) found = subst (λ n. All (λ line. line.0 ≤ n) found) self.counted (lines-within (notes_in self.notes) found self.numbered c.in_ok-gathered.ensures) in
+    let within = numbers-behind self.lines folding.lines found folding.refusals c.put_behind.new.self low read.numbered c.in_ok-put_behind.ensures in
     let notes = one-note c.in_ok-notes.notes.items _ c.in_ok-notes.ensures within in (
       omega (arith, count, same, c.requires.few),
       (
-        (let fewer = self.fewer in let n = c.len.ensures in let m = length-refused_of fields ls in
-            omega (arith, n, listed, m, count, fewer)),
+        (let fewer = self.fewer in let m = length-refused_of fields ls in omega (arith, listed, m, count, fewer)),
         (
           ∥∥₁_elim c.requires.of_plan (hlevel props) (λ s.
               let p = subst (λ (v : PartialState). StandsFor fields q v s.0) (sym c.self.view_is) s.1 in
@@ -97,19 +103,18 @@ returns c = record {
       let folding = c.in_ok-folding.folding in
       let rest = c.args.rest.now in
       let read = c.in_ok-folding.ensures.read (records_of fields pieces) p.table in
-      let found = c.in_ok-numbered.numbered.items in
-      let all = c.put_behind.new.numbered.items in
-      let behind = c.in_ok-put_behind.ensures ∙ ap (λ ls. found ++ map (λ line. (self.lines + line.0, line.1)) ls) c.as_slice.ensures.value in
+      let found = c.in_ok-gathered.gathered in
+      let all = c.put_behind.new.self in
       let count = lines-behind front rest pieces whole given.cut in
-      let refused = refused-behind fields front rest pieces (notes_in self.notes) self.lines found folding.refused.items all whole given.cut p.notes c.in_ok-numbered.ensures
-      (let x = p.lines in omega (arith, x)) read.refused behind in
+      let refused = refused-behind fields front rest pieces (notes_in self.notes) self.lines found folding.refusals all whole given.cut p.notes c.in_ok-gathered.ensures
+      (let x = p.lines in omega (arith, x)) read.refused c.in_ok-put_behind.ensures in
       record {
         sets = p.sets;
         functions = p.functions;
         filters = p.filters;
         table = subst (λ (rows : List Row). IsTableOf (grouping_places fields q) (aggregate_functions fields q) folding.table (kept_records fields q rows)) (sym (records-behind fields front rest pieces whole given.cut)) read.table;
         lines = (let x = p.lines in let y = read.lines in let z = whole-lines (front ++ rest) in omega (arith, x, y, z, count));
-        refused = (let x = p.refused in let n = c.len.ensures in let y = ap length read.refused in let z = count-behind fields front rest pieces whole given.cut in omega (arith, x, n, y, z));
+        refused = (let x = p.refused in let y = read.count in let z = count-behind fields front rest pieces whole given.cut in omega (arith, x, y, z));
         notes = followed-note fields (front ++ rest) c.in_ok-notes.notes.items _ c.in_ok-notes.ensures (omega arith) (let x = p.lines in let y = read.lines in omega (arith, x, y, count)) refused;
       };
 }

@@ -1,4 +1,4 @@
-use Rattle.std.proofs.Common.{◌≡◌, ◌+◌, ◌++◌, ◌∷◌, [], List, length, map, sym, ap, subst, ◌∙◌, arith}
+use Rattle.std.proofs.Common.{◌≡◌, ◌+◌, ◌++◌, ◌∷◌, [], List, map, sym, ap, subst, ◌∙◌, arith}
 use Rattle.std.proofs.Math.Logic.{∥∥₁_elim, ∥∥₁_map}
 use Rattle.std.proofs.Props.{props}
 use Rattle.std.proofs.lemmas.List.{map-append}
@@ -34,13 +34,18 @@ read_onto-requires c =
 pub overflow_add-result : goal.overflow_add-result
 overflow_add-result c =
     let same : c.self.inside.lines ≡ c.args.self.lines = ap (λ (v : PartialState). v.lines) c.self.view_is in
+    let count = c.in_ok-folding.ensures.lines in
+    omega (arith, count, same, c.requires.few)
+
+pub overflow_add-result-2 : goal.overflow_add-result-2
+overflow_add-result-2 c =
+    let same : c.self.inside.lines ≡ c.args.self.lines = ap (λ (v : PartialState). v.lines) c.self.view_is in
     let read = c.in_ok-folding.ensures in
     let count = read.lines in
     let listed = read.refused in
     let fewer = c.self.inside.fewer in
-    let n = c.len-more.ensures in
     let m = length-refused_of c.args.plan.now.fields (lines c.args.piece.now) in
-    omega (arith, n, listed, m, count, fewer, same, c.requires.few)
+    omega (arith, listed, m, count, fewer, same, c.requires.few)
 
 pub invariant_of-result : goal.invariant_of-result
 invariant_of-result c =
@@ -53,12 +58,11 @@ invariant_of-result c =
     let read = c.in_ok-folding.ensures in
     let count = read.lines in
     let listed = read.refused in
-    let note : PieceRefusals = record { index = c.args.index; lines = folding.lines; refused = folding.refused } in
+    let note : PieceRefusals = record { index = c.args.index; lines = folding.lines; refused = folding.refusals } in
     let noted = one-noted_more self.notes.items c.push.new.self.items note self.lines c.in_ok-push.ensures.items self.counted self.numbered read.numbered in (
       omega (arith, count, same, c.requires.few),
       (
-        (let fewer = self.fewer in let n = c.len-more.ensures in let m = length-refused_of fields ls in
-            omega (arith, n, listed, m, count, fewer)),
+        (let fewer = self.fewer in let m = length-refused_of fields ls in omega (arith, listed, m, count, fewer)),
         (
           ∥∥₁_elim c.requires.of_plan (hlevel props) (λ s.
               let p = subst (λ (v : PartialState). StandsFor fields q v s.0) (sym c.self.view_is) s.1 in
@@ -88,10 +92,10 @@ returns-clause-stands c = λ pieces given.
       filters = p.filters;
       table = subst (λ (rows : List Row). IsTableOf (grouping_places fields q) (aggregate_functions fields q) folding.table (kept_records fields q rows)) (sym (records-more fields pieces c.args.index bytes)) read.table;
       lines = (let x = p.lines in let y = read.lines in let z = lines-more pieces c.args.index bytes in omega (arith, x, y, z));
-      refused = (let x = p.refused in let n = c.len-more.ensures in let y = ap length read.refused in let z = refused-more fields pieces c.args.index bytes in omega (arith, x, n, y, z));
+      refused = (let x = p.refused in let y = read.count in let z = refused-more fields pieces c.args.index bytes in omega (arith, x, y, z));
       notes = subst (λ (ns : List Noted). SameBag (map (note_of fields) (pieces ++ record { index = c.args.index; bytes = bytes } ∷ [])) ns)
           (sym (ap (map note_in) c.in_ok-push.ensures.items ∙ map-append note_in self.notes.items _))
-          (notes-more fields pieces (map note_in self.notes.items) c.args.index bytes folding.lines folding.refused.items read.lines read.refused p.notes);
+          (notes-more fields pieces (map note_in self.notes.items) c.args.index bytes folding.lines folding.refusals read.lines read.refused p.notes);
     }
 
 pub returns-clause-of_plan : goal.returns-clause-of_plan

@@ -1,4 +1,4 @@
-use Rattle.std.proofs.Common.{◌∷◌, [], List, length, map, refl, sym, ap, subst, arith}
+use Rattle.std.proofs.Common.{◌∷◌, [], List, map, refl, sym, ap, subst, arith}
 use Rattle.semantics.specs.Lines.{lines}
 use Rattle.semantics.specs.Sets.{grouping_places}
 use Rattle.semantics.specs.Conditions.{kept_records}
@@ -37,7 +37,7 @@ invariant_of-result c =
     let notes = one-note c.in_ok-notes.notes.items _ c.in_ok-notes.ensures c.in_ok-table.ensures.numbered in (
       omega (arith, count, short, c.requires),
       (
-        (let n = c.len-count.ensures in let r = c.in_ok-table.ensures.refused in let m = length-refused_of fields ls in let ok = folding.refused.ok in grind (arith, n, r, m, count, ok)),
+        (let r = c.in_ok-table.ensures.refused in let m = length-refused_of fields ls in omega (arith, r, m, count)),
         (
           subst (λ (fs : List FilteredFunction). IsCounted folding.lines fs folding.table) (sym c.in_ok-shape.ensures.functions)
               (table-counted fields q folding.table (kept_records fields q (valid_records_of fields ls)) folding.lines read.table (omega (arith, valid, few, count))),
@@ -63,9 +63,9 @@ returns c =
         filters = c.in_ok-shape.ensures.filters;
         table = subst (λ (rows : List Row). IsTableOf (grouping_places fields q) (aggregate_functions fields q) folding.table (kept_records fields q rows)) (sym (records-more fields [] c.args.index bytes)) read.table;
         lines = (let y = read.lines in let z = lines-more [] c.args.index bytes in omega (arith, y, z));
-        refused = (let n = c.len-count.ensures in let y = ap length read.refused in let z = refused-more fields [] c.args.index bytes in omega (arith, n, y, z));
+        refused = (let y = read.count in let z = refused-more fields [] c.args.index bytes in omega (arith, y, z));
         notes = subst (λ (ns : List Noted). SameBag (map (note_of fields) (record { index = c.args.index; bytes = bytes } ∷ [])) ns)
             (sym (ap (map note_in) c.in_ok-notes.ensures))
-            (notes-more fields [] [] c.args.index bytes folding.lines folding.refused.items read.lines read.refused (λ f. refl));
+            (notes-more fields [] [] c.args.index bytes folding.lines folding.refusals read.lines read.refused (λ f. refl));
       };
     }

@@ -27,14 +27,14 @@ merge_tables-requires-clause-mergeable g c =
     let few : a.lines + b.lines < 2 ^ 63 = omega (arith, first, second, c.requires.few) in
     counted-can_join a.shape.functions.items b.shape.functions.items a.lines b.lines a.table b.table functions a.within b.within few
 
-pub number-requires-clause-few : goal.number-requires-clause-few
-number-requires-clause-few g c = let a = c.self.inside in let counted = a.counted in let few = a.few in omega (arith, counted, few)
+pub gather-requires-clause-few : goal.gather-requires-clause-few
+gather-requires-clause-few g c = let a = c.self.inside in let counted = a.counted in let few = a.few in omega (arith, counted, few)
 
-pub number-requires-clause-numbered : goal.number-requires-clause-numbered
-number-requires-clause-numbered g c = c.self.inside.numbered
+pub gather-requires-clause-numbered : goal.gather-requires-clause-numbered
+gather-requires-clause-numbered g c = c.self.inside.numbered
 
-pub number_behind-requires-clause-few : goal.number_behind-requires-clause-few
-number_behind-requires-clause-few g c =
+pub gather_behind-requires-clause-few : goal.gather_behind-requires-clause-few
+gather_behind-requires-clause-few g c =
     let a = c.self.inside in
     let b = c.rest.inside in
     let counted = b.counted in
@@ -42,8 +42,8 @@ number_behind-requires-clause-few g c =
     let second : b.lines ≡ c.args.rest.lines = ap (λ (v : PartialState). v.lines) c.rest.view_is in
     omega (arith, first, second, counted, c.requires.few)
 
-pub number_behind-requires-clause-numbered : goal.number_behind-requires-clause-numbered
-number_behind-requires-clause-numbered g c = c.rest.inside.numbered
+pub gather_behind-requires-clause-numbered : goal.gather_behind-requires-clause-numbered
+gather_behind-requires-clause-numbered g c = c.rest.inside.numbered
 
 pub invariant_of-result : goal.invariant_of-result
 invariant_of-result g c =
@@ -53,10 +53,10 @@ invariant_of-result g c =
     ap (λ (v : PartialState). v.functions) c.self.view_is ∙ c.requires.one_shape.functions ∙ sym (ap (λ (v : PartialState). v.functions) c.rest.view_is) in
     let first : a.lines ≡ c.args.self.lines = ap (λ (v : PartialState). v.lines) c.self.view_is in
     let second : b.lines ≡ c.args.rest.lines = ap (λ (v : PartialState). v.lines) c.rest.view_is in
-    let found = c.in_ok-numbered.numbered.items in
-    let low : All (λ line. line.0 ≤ a.lines) found = subst (λ n. All (λ line. line.0 ≤ n) found) a.counted (lines-within (notes_in a.notes) found a.numbered c.in_ok-numbered.ensures) in
-    let all = c.number_behind.new.numbered.items in
-    let within : All (λ line. line.0 ≤ a.lines + b.lines) all = subst (λ n. All (λ line. line.0 ≤ a.lines + n) all) b.counted (behind-within a.lines _ (notes_in b.notes) found all b.numbered low c.in_ok-number_behind.ensures (omega arith)) in
+    let found = c.in_ok-gathered.gathered in
+    let low : All (λ line. line.0 ≤ a.lines) found = subst (λ n. All (λ line. line.0 ≤ n) found) a.counted (lines-within (notes_in a.notes) found a.numbered c.in_ok-gathered.ensures) in
+    let all = c.gather_behind.new.gathered in
+    let within : All (λ line. line.0 ≤ a.lines + b.lines) all = subst (λ n. All (λ line. line.0 ≤ a.lines + n) all) b.counted (behind-within a.lines _ (notes_in b.notes) found all b.numbered low c.in_ok-gather_behind.ensures (omega arith)) in
     let notes = one-note c.in_ok-notes.notes.items _ c.in_ok-notes.ensures within in (
       omega (arith, first, second, c.requires.few),
       (
@@ -77,10 +77,10 @@ returns-clause-stands g c = λ fields q front back given other whole.
     let b = c.rest.inside in
     let p = subst (λ (v : PartialState). StandsFor fields q v given.pieces) (sym c.self.view_is) given.stands in
     let m = subst (λ (v : PartialState). StandsFor fields q v other.pieces) (sym c.rest.view_is) other.stands in
-    let found = c.in_ok-numbered.numbered.items in
-    let all = c.number_behind.new.numbered.items in
+    let found = c.in_ok-gathered.gathered in
+    let all = c.gather_behind.new.gathered in
     let count = followed-lines front back given.pieces other.pieces whole given.cut other.cut in
-    let refused = followed-refused fields front back given.pieces other.pieces (notes_in a.notes) (notes_in b.notes) _ found all whole given.cut other.cut p.notes m.notes c.in_ok-numbered.ensures c.in_ok-number_behind.ensures
+    let refused = followed-refused fields front back given.pieces other.pieces (notes_in a.notes) (notes_in b.notes) _ found all whole given.cut other.cut p.notes m.notes c.in_ok-gathered.ensures c.in_ok-gather_behind.ensures
     (let x = p.lines in omega (arith, x)) in
     record {
       sets = p.sets;

@@ -5,7 +5,7 @@ use Rattle.std.proofs.lemmas.List.Sums.{sum_by-cons}
 use Rattle.tables.specs.declared.piece_refusals.PieceRefusals.{PieceRefusals}
 use Rattle.tables.specs.Notes.{IsWellNumbered, Noted, line_count, note_in, refused_lines_from}
 use Rattle.tables.proofs.Following.{first-numbered}
-use Rattle.tables.proofs.numbering.number_in_order.Goals as goal
+use Rattle.tables.proofs.numbering.gather_in_order.Goals as goal
 
 -- the notes are the first one and those that are left
 parted : (notes rest : List PieceRefusals) (first : PieceRefusals) → 0 < length notes → first ≡ slice_index_or notes 0 first → rest ≡ remove notes 0 → notes ≡ first ∷ rest
