@@ -5,7 +5,8 @@
 -- known, how many they are at most (`IsCounted`) and of which types its groups are (`IsTypedTable`); `order_law`, `roll_law`, `counted_law` and `typed_law` are
 -- laws on such tables; and in `tables` a partial result has one (`PartialState`, `StandsFor`, `Denotation`), which an `Executor` puts to another. `Table::finish`
 -- says by `AreGroupsOfTable` and `HaveTypesOfTable` what a finished table gives. What a result over an input is, the calls above it say in the words of the other
--- files alone. Of `Keys`, `Shards`, `Pairs`, `Walks`, `Summaries` and `GroupsOfShards` private calls alone speak.
+-- files alone. `HashSeed::draw` says by `Hashing` that a seed is no fixed one. Of `Keys`, `Shards`, `Pairs`, `Walks`, `Summaries`, `GroupsOfShards` and `ValueSets`
+-- private calls alone speak.
 pub mod Values
 pub mod Hashing
 pub mod ValueSets

@@ -7,11 +7,14 @@ use std::io;
 use std::random::RandomSource;
 
 /// The seed by which a table hashes its groups' keys and the values that `COUNT(DISTINCT x)` counts: the two keys of
-/// SipHash-1-3, of 64 bits each. What a table takes and gives does not depend on it; the time that it takes may.
+/// SipHash-1-3, of 64 bits each. No bytes make this hash forget those before them. Which groups a table has, and what it
+/// gives of them, does not depend on the seed; how long it takes may.
+///
+/// Example: `Table::new(alloc, HashSeed::Fixed, &[], functions)` has the one group that it has with `HashSeed::draw(&rt)?`.
 #[derive(Clone, Copy)]
 pub enum HashSeed {
-    /// The keys 0, as `DefaultHasher::new()` has them. Whoever picks the keys of the groups may pick them so that many have
-    /// one hash, and the table is slow then.
+    /// The keys 0, as `DefaultHasher::new()` has them. Whoever picks the keys of the groups can search for many that have one
+    /// hash, and the table is slow then.
     Fixed,
     /// Keys that are drawn by chance.
     Random(RandomState),

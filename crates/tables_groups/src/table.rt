@@ -29,6 +29,9 @@ const PARALLEL_MIN_GROUPS: usize = 4_096;
 
 /// The groups of one grouping set over the records that were taken so far, each by its key.
 ///
+/// It keeps the seed by which it hashes, and hands it to all tables that are made of it; where two are put together, the
+/// one that takes keeps its own.
+///
 /// It keeps neither its grouping set nor its set functions: each call that needs them is given the same ones. Of a
 /// group it keeps the number of its members, and for each set function what its value comes of: COUNT DISTINCT keeps
 /// each different value.
@@ -90,7 +93,8 @@ impl Table {
     ghost use Rattle.tables_groups.specs.Rolled.{AreAmong};
 
     /// The table of no records under a grouping set, for these set functions, whatever their filters keep. The set has
-    /// the places of its columns, from 0. The empty set has its one group from the start, with the empty key.
+    /// the places of its columns, from 0. The empty set has its one group from the start, with the empty key. The seed is
+    /// that of all hashes of the table.
     ///
     /// Example: `Table::new(alloc, seed, &[], functions)` answers a table whose `len()` is 1; with `&[0]` it is 0.
     ///

@@ -22,7 +22,7 @@ use values::Value;
 
 /// A set of values: no value takes no memory, and one value none but that of its copy.
 ///
-/// What it has stands in a box, so that the accumulators of other set functions are small.
+/// What it has stands in a box: with a value in it, each accumulator would be larger, those of other set functions too.
 #[derive(Drop)]
 pub(crate) enum ValueSet {
     /// No value.
