@@ -29,8 +29,8 @@ const PARALLEL_MIN_GROUPS: usize = 4_096;
 
 /// The groups of one grouping set over the records that were taken so far, each by its key.
 ///
-/// It keeps the seed by which it hashes, and hands it to all tables that are made of it; where two are put together, the
-/// one that takes keeps its own.
+/// It keeps the seed by which it hashes, and hands it to all tables that are made of it; where two are put together,
+/// the one that takes keeps its own.
 ///
 /// It keeps neither its grouping set nor its set functions: each call that needs them is given the same ones. Of a
 /// group it keeps the number of its members, and for each set function what its value comes of: COUNT DISTINCT keeps
@@ -93,8 +93,8 @@ impl Table {
     ghost use Rattle.tables_groups.specs.Rolled.{AreAmong};
 
     /// The table of no records under a grouping set, for these set functions, whatever their filters keep. The set has
-    /// the places of its columns, from 0. The empty set has its one group from the start, with the empty key. The seed is
-    /// that of all hashes of the table.
+    /// the places of its columns, from 0. The empty set has its one group from the start, with the empty key. The seed
+    /// is that of all hashes of the table.
     ///
     /// Example: `Table::new(alloc, seed, &[], functions)` answers a table whose `len()` is 1; with `&[0]` it is 0.
     ///
@@ -115,7 +115,8 @@ impl Table {
     /// The table of no records that `new` gives, kept in such a way that as many hands put it to another one soonest
     /// (`absorb_among`), where that one is kept so too. What is taken and given does not depend on the hands.
     ///
-    /// Example: `Table::for_hands(alloc, seed, 4, &[], functions)` answers a table whose `len()` is 1; with `&[0]` it is 0.
+    /// Example: `Table::for_hands(alloc, seed, 4, &[], functions)` answers a table whose `len()` is 1; with `&[0]` it is
+    /// 0.
     ///
     /// # Errors
     ///

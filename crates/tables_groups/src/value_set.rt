@@ -99,8 +99,8 @@ impl ValueSet {
         self.insert(memory, copy)
     }
 
-    /// Takes the values of another set: those of the smaller one move into the larger one. After an error the set is of no
-    /// use.
+    /// Takes the values of another set: those of the smaller one move into the larger one. After an error the set is of
+    /// no use.
     pub(crate) fn absorb(&mut self, memory: Memory, other: ValueSet) -> Result<(), AllocError>
         ensures { OnOk result (shown self.new ≡ set.union (shown self.old) (shown other)) }
     {
