@@ -1,3 +1,4 @@
 pub mod Written
 mod Examples
 mod OnGroups
+mod Room

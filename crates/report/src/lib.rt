@@ -13,6 +13,6 @@ mod text;
 
 pub use among::report_among;
 pub use arranging::arrange;
-pub use refused::refused_text;
+pub use refused::{push_refused_line, refused_line_room, refused_text};
 pub use report_rows::{ReportRow, arranged_law, order_law};
 pub use text::{report_on, report_text};

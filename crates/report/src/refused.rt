@@ -1,14 +1,20 @@
 //! The list of refused lines.
-ghost use Rattle.std.specs.Prelude.{◌≡◌, ◌++◌, IfOk, OnOk, codes, decimal};
+ghost use Rattle.std.specs.Prelude.{◌≡◌, ◌<◌, ◌++◌, ◌^◌, IfOk, OnOk, codes, decimal, length, max};
+ghost use Rattle.values.specs.Schema.{fields_of};
 ghost use Rattle.semantics.specs.Canonical.{name_at};
-ghost use Rattle.report.specs.Report.{refusals_of};
+ghost use Rattle.semantics.specs.Columns.{names_of};
 ghost use Rattle.semantics.specs.Texts.{fault_text, refused_line};
+ghost use Rattle.report.specs.Report.{IsLineRoom, line_room, longest, refusals_of};
 
 use itoa::Buffer;
 use lines::LineFault;
 use std::alloc::{AllocError, Global};
 use tables::Groups;
-use values::Schema;
+use values::{Column, Schema};
+
+/// The most bytes of a refused line beside the name of a column: those of the words, of a number of 64 bits and of a
+/// line feed.
+const MOST_BESIDE_A_NAME: usize = 48;
 
 /// The bytes of the list of refused lines: for each, in the order given, `line N: ` and what is wrong with it, ended by
 /// a line feed. There are none where no line is refused. N is the number of the line in the input, from 1.
@@ -26,13 +32,21 @@ pub fn refused_text(alloc: Global, groups: &Groups, schema: &Schema) -> Result<V
 {
     let mut text = Vec::new(alloc);
     for (number, fault) in groups.refused() {
-        push_line(&mut text, schema, *number, *fault)?;
+        push_refused_line(&mut text, schema, *number, *fault)?;
     }
     Ok(text)
 }
 
-/// Adds a refused line.
-fn push_line(
+/// Adds a refused line to the bytes of a list of refused lines, as `refused_text` has it.
+///
+/// Example: under the columns `shop:text,cents:int`, line 5 with `BadValue(1)` adds `line 5: bad value in column cents`,
+/// ended by a line feed.
+///
+/// # Errors
+///
+/// `AllocError` where the text has no room for the line, and there is no memory for more: then the text ends with a
+/// beginning of the line.
+pub fn push_refused_line(
     text: &mut Vec<u8>,
     schema: &Schema,
     number: u64,
@@ -44,6 +58,17 @@ fn push_line(
     push_number(text, number)?;
     push_fault(text, schema, fault)?;
     text.extend_from_slice(b"\n")
+}
+
+/// So many bytes as are enough for each line of a list of refused lines, under these columns.
+///
+/// Example: under the columns `shop:text,cents:int` it is 53, since `line 18446744073709551615: bad value in column cents`
+/// has 52 bytes, and a line feed ends it.
+pub fn refused_line_room(schema: &Schema) -> usize
+    ensures room { result ≡ line_room schema.now }
+    ensures enough { IsLineRoom schema.now result }
+{
+    MOST_BESIDE_A_NAME + longest_name(schema.columns())
 }
 
 /// Adds the number of a refused line.
@@ -86,4 +111,24 @@ fn column_name(schema: &Schema, place: usize) -> &str
         Some(column) => column.name.as_str(),
         None => "",
     }
+}
+
+/// The length of the longest name of a column.
+fn longest_name(columns: &[Column]) -> usize
+    ensures longest { result ≡ longest (names_of (fields_of columns.now)) }
+    ensures within { result < 2 ^ 63 }
+{
+    let mut longest = 0;
+    for column in columns {
+        longest = longer(longest, column.name.as_str());
+    }
+    longest
+}
+
+/// A length, or that of a name where it is longer.
+fn longer(most: usize, name: &str) -> usize
+    ensures longer { result ≡ max most (length name.now) }
+    ensures within { most < 2 ^ 63 → result < 2 ^ 63 }
+{
+    most.max(name.len())
 }

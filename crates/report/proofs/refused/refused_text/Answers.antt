@@ -13,7 +13,7 @@ loop-number-preserved c =
     let i = c.loop-number.number-index in
     let is : lines ≡ c.args.groups.now.refused = c.refused-number-items.ensures in
     let next = get_or lines i (0, TooLong) in
-    c.in_ok-push_line.ensures
+    c.in_ok-push_refused_line.ensures
     ∙ ap (λ (bytes : List ℕ). bytes ++ line next) (c.loop-number.invariant ∙ ap (λ (xs : List (ℕ × LineFault)). flat_map line (take i xs)) (sym is))
     ∙ flat_map_more line [] (take i lines) next
     ∙ ap (flat_map line) (sym (take_more lines i (0, TooLong) c.loop-number-test.true))
