@@ -1,4 +1,5 @@
 mod Fronts
+mod Sending
 pub mod Explained
 pub mod Joins
 pub mod Known

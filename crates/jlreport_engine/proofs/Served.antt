@@ -1,6 +1,5 @@
 -- How the program ends, by what it did.
 use Rattle.std.proofs.Common.{◌≡◌, ◌≢◌, ◌⊎◌, ℕ, Bool, true, false, List, Option, Some, None, Result, Ok, Err, inl, inr, refl, subst, sym}
-use Rattle.std.proofs.KnownBytes.{Keeps-refl}
 use Rattle.std.specs.Borrow.{Bor}
 use Rattle.std.specs.Fn.{CalledAt, Mut}
 use Rattle.std.specs.Io.KnownBytes.{Appends, Keeps}
@@ -8,7 +7,7 @@ use Rattle.std.specs.Prelude.{IsOk, OnOk, slice_get}
 use Rattle.semantics.specs.Columns.{Field, schema_of}
 use Rattle.semantics.specs.Explanation.{IsAnswerable, explanation}
 use Rattle.semantics.specs.Faults.{query_faults}
-use Rattle.semantics.specs.Reading.{Derives, IsRefusalOf}
+use Rattle.semantics.specs.Reading.{Derives}
 use Rattle.semantics.specs.Serving.{EndsByRun, EndsBySettings, EndsByText, IsRefused}
 use Rattle.semantics.specs.Syntax.{TreeForm}
 use Rattle.semantics.specs.declared.ending.Ending.{Ending}

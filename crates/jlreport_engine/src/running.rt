@@ -3,15 +3,16 @@ ghost use Rattle.std.specs.Prelude.{◌≡◌, ◌≢◌, ℕ, List, Option, IfE
 ghost use Rattle.tables.specs.Partials.{StandsForInput};
 ghost use Rattle.tables.specs.Sound.{IsSoundUnder};
 ghost use Rattle.semantics.specs.Run.{IsRun, IsWithin, refusals, report};
+ghost use Rattle.report.specs.Report.{refusals_of};
 ghost use Rattle.jlreport_engine.specs.Run.{StandsForKnown};
 
 use crate::reporting::ReportExecutor;
 use crate::seeding::random_seed;
-use crate::writing::put_both;
+use crate::writing::{list_buffer, put_both};
 use jlreport_cli::Options;
 use jlreport_scan::{gather, gather_alone};
 use query::Plan;
-use report::{arranged_law, refused_text};
+use report::arranged_law;
 use semantics::{Done, RunFault};
 use std::alloc::{AllocError, Global};
 use std::io::{Read, Write};
@@ -21,15 +22,15 @@ use std::sync::Wait;
 use std::thread::Threads;
 use tables::{Groups, Parallel, Partial, Serial, sound_law};
 
-/// What is written of an input, and what that is made of.
+/// What is written of an input, and all the memory that it takes to write it.
 #[derive(Drop)]
 struct Texts {
     /// The report.
     report: Vec<u8>,
-    /// The list of refused lines.
-    refused: Vec<u8>,
-    /// The groups, whose memory is given back once both are written, so that nobody waits for that.
+    /// The groups, and the refused lines: the memory is given back once all is written, so that nobody waits for that.
     groups: Groups,
+    /// What the list of refused lines is written through.
+    buffer: Vec<u8>,
 }
 
 /// Answers the query of a plan over what a reader gives, by as many threads as there are workers,
@@ -132,19 +133,25 @@ pub(crate) fn write_whole<X: ReportExecutor, O: Write, E: Write>(
         lines: whole.lines(),
         refused: whole.refused(),
     };
-    let texts = texts_of(executor, alloc, plan, whole)?;
-    if let Err(fault) = put_both(out, texts.report.as_slice(), err, texts.refused.as_slice()) {
-        return Err(fault);
-    }
     let Texts {
         report,
-        refused,
         groups,
-    } = texts;
-    // The two large pieces of memory go back before the many small ones: a large one has the allocator look at each small
-    // one that lies with it.
+        mut buffer,
+    } = texts_of(executor, alloc, plan, whole)?;
+    let refused = groups.refused();
+    if let Err(fault) = put_both(
+        out,
+        report.as_slice(),
+        err,
+        &mut buffer,
+        plan.schema(),
+        refused,
+    ) {
+        return Err(fault);
+    }
+    // The large piece of memory goes back before the many small ones: a large one has the allocator look at each small one
+    // that lies with it.
     drop(report);
-    drop(refused);
     executor.give_back(alloc, groups);
     Ok(done)
 }
@@ -163,16 +170,16 @@ fn texts_of<X: ReportExecutor>(
         → texts.report.items ≡ report plan.now.fields plan.now.query input) }
     ensures refused { IfOk result (λ texts. (input : List ℕ)
         → StandsForInput plan.now.fields plan.now.query partial input
-        → texts.refused.items ≡ refusals plan.now.fields input) }
+        → refusals_of plan.now.fields texts.groups.refused ≡ refusals plan.now.fields input) }
 {
     let groups = executor.groups(plan, partial)?;
     let report = executor.report(alloc, &groups, plan)?;
-    let refused = refused_text(alloc, &groups, plan.schema())?;
+    let buffer = list_buffer(alloc, plan.schema(), groups.refused().len())?;
     // The groups came in the order of a walk over a table, which the report does not show.
     arranged_law();
     Ok(Texts {
         report,
-        refused,
         groups,
+        buffer,
     })
 }

@@ -21,6 +21,4 @@ pub returns-clause-refused : goal.returns-clause-refused
 returns-clause-refused g c = λ input whole.
     let fields = c.args.plan.now.fields in
     let is = c.in_ok-groups.ensures.whole input whole.pieces whole.stands whole.cut in
-    c.in_ok-refused.ensures
-    ∙ ap (λ columns. refusals_of columns c.in_ok-groups.groups.refused) c.schema.ensures.schema
-    ∙ ap (refusals_of fields) is.refused
+    ap (refusals_of fields) is.refused
