@@ -87,10 +87,9 @@ pub trait Executor {
             → AreGroupsWithin (m + n) functions table) }
         ensures groups { IfOk result (HasGroupsOfEither first second) };
 
-    /// Makes the tables of some rolls, each out of this table, and leaves no table in a roll where there was no memory for
-    /// it.
+    /// Makes the tables of some rolls out of this table, and leaves no table in a roll where there was no memory for it.
     ///
-    /// This is a table for these set functions, of fewer than 2^63 records, and has the columns of the set of each roll.
+    /// It is a table for these set functions, of fewer than 2^63 records, and has the columns of the set of each roll.
     ///
     /// Example: out of the table of the set of two columns come, by two rolls, those of the one and of the other.
     fn roll_each(&self, finer: &SetTable, rolls: &mut [Roll], functions: &[FilteredFunction])

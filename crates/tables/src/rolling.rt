@@ -149,8 +149,8 @@ fn first_table(
     Ok(tables)
 }
 
-/// Rolls out of a table those of the waiting sets whose columns it has, but none that another one of these has the columns
-/// of. Their tables come behind others, that with the fewest groups last. It gives the sets that wait on.
+/// Rolls out of a table those of the waiting sets whose columns it has, but none whose columns another one of these has.
+/// Their tables come behind others, that with the fewest groups last. It gives the sets that wait on.
 fn roll_out<E: Executor>(
     alloc: Global,
     executor: &E,
@@ -258,7 +258,8 @@ fn tables_of_rolls(alloc: Global, rolls: Vec<Roll>) -> Result<Vec<SetTable>, All
         sets_of_tables tables.items ≡ sets_of_rolls rolls.items) }
     ensures tables { IfOk result (λ tables.
         (property : Property) (functions : List FilteredFunction)
-        → All (λ roll. IfSome roll.table (HasProperty property roll.set.items functions)) rolls.items
+        → All (λ roll. IfSome roll.table (HasProperty property roll.set.items functions))
+        rolls.items
         → HaveProperty property functions tables.items) }
 {
     let mut tables = Vec::with_capacity(alloc, rolls.len())?;
