@@ -36,6 +36,10 @@ HasRolled functions finer old new = (new.set.items ≡ old.set.items) × (new.in
 abbrev pub AreRolled : List FilteredFunction → SetTable → List Roll → List Roll → Type 0
 AreRolled functions finer olds news = (i : ℕ) (d : Roll) → i < length olds → HasRolled functions finer (slice_index_or olds i d) (slice_index_or news i d)
 
+-- each roll that has a table has a property, under its set
+abbrev pub HavePropertyWhereMade : Property → List FilteredFunction → List Roll → Type 0
+HavePropertyWhereMade property functions rolls = All (λ (roll : Roll). IfSome roll.table (HasProperty property roll.set.items functions)) rolls
+
 -- ---- sets and their indexes
 
 -- a grouping set, and its index in the list of all, if it stands there

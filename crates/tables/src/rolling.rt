@@ -1,5 +1,5 @@
 //! The groups of each grouping set, rolled out of the table of all grouping columns.
-ghost use Rattle.std.specs.Prelude.{◌≡◌, ◌<◌, ◌↔◌, ◌∷◌, ◌++◌, [], Some, true, false, ℕ, All, IfOk, IfSome, OnOk, IsTrue, List, length};
+ghost use Rattle.std.specs.Prelude.{◌≡◌, ◌<◌, ◌↔◌, ◌∷◌, ◌++◌, [], Some, true, false, ℕ, All, IfOk, OnOk, IsTrue, List, length};
 ghost use Rattle.std.specs.List.{Any};
 ghost use Rattle.std.specs.List.Sorted.{IsPermutation};
 ghost use Rattle.query_resolve.specs.Resolution.{contents};
@@ -7,7 +7,7 @@ ghost use Rattle.query_resolve.specs.declared.function.FilteredFunction.{Filtere
 ghost use Rattle.tables_groups.specs.Rolled.{AreAmong};
 ghost use Rattle.tables_groups.specs.Inside.Table.{HasFewRecords};
 ghost use Rattle.tables.specs.Properties.{HasProperty, Property};
-ghost use Rattle.tables.specs.SetTables.{AreGroupsOfRolls, HasFiner, HasGroupsOf, HasRolled, HaveFiner, HaveProperty, KeepsOthers, NoneHasIndex, StandsAtIndex, set_of_roll, sets_of_rolls, sets_of_tables};
+ghost use Rattle.tables.specs.SetTables.{AreGroupsOfRolls, HasFiner, HasGroupsOf, HasRolled, HaveFiner, HaveProperty, HavePropertyWhereMade, KeepsOthers, NoneHasIndex, StandsAtIndex, set_of_roll, sets_of_rolls, sets_of_tables};
 
 use crate::executor::Executor;
 use query_plan::FilteredFunction;
@@ -258,8 +258,7 @@ fn tables_of_rolls(alloc: Global, rolls: Vec<Roll>) -> Result<Vec<SetTable>, All
         sets_of_tables tables.items ≡ sets_of_rolls rolls.items) }
     ensures tables { IfOk result (λ tables.
         (property : Property) (functions : List FilteredFunction)
-        → All (λ roll. IfSome roll.table (HasProperty property roll.set.items functions))
-        rolls.items
+        → HavePropertyWhereMade property functions rolls.items
         → HaveProperty property functions tables.items) }
 {
     let mut tables = Vec::with_capacity(alloc, rolls.len())?;
