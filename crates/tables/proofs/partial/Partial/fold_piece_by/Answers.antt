@@ -16,14 +16,14 @@ use Rattle.tables.proofs.Sound.{table-counted}
 use Rattle.tables.proofs.partial.Partial.fold_piece_by.Goals as goal
 
 pub read_onto-requires : goal.read_onto-requires
-read_onto-requires c = ∣ record {
+read_onto-requires g c = ∣ record {
   before = [];
   is_table = c.in_ok-empty.ensures;
   few = (let short = length-lines c.args.piece.now in omega (arith, short, c.requires));
 } ∣₁
 
 pub invariant_of-result : goal.invariant_of-result
-invariant_of-result c =
+invariant_of-result g c =
     let fields = c.args.plan.now.fields in
     let q = c.args.plan.now.query in
     let shape = c.in_ok-shape.shape in
@@ -50,7 +50,7 @@ invariant_of-result c =
     )
 
 pub returns : goal.returns
-returns c =
+returns g c =
     let fields = c.args.plan.now.fields in
     let q = c.args.plan.now.query in
     let bytes = c.args.piece.now in
