@@ -60,10 +60,10 @@ pub(crate) fn put_and_flush<W: Write>(writer: &mut W, text: &[u8]) -> Result<(),
 
 // ---- a list that is longer than a buffer
 
-/// The most bytes of a list of refused lines that wait to be written, where no line alone has more.
+/// A list of refused lines that has no more bytes is written at once.
 const LIST_BYTES: usize = 65_536;
 
-/// A buffer for the list of so many refused lines: it has room for all of it, or for 64 KiB, and for any one line.
+/// A buffer for the list of so many refused lines: it has room for all of it, or for 64 KiB and any one line more.
 pub(crate) fn list_buffer(
     alloc: Global,
     schema: &Schema,
@@ -72,7 +72,11 @@ pub(crate) fn list_buffer(
     ensures { IfOk result (λ buffer. HasRoomFor schema.now lines buffer) }
 {
     let room = refused_line_room(schema);
-    Vec::with_capacity(alloc, room.saturating_mul(lines).min(room.max(LIST_BYTES)))
+    Vec::with_capacity(
+        alloc,
+        room.saturating_mul(lines)
+            .min(room.saturating_add(LIST_BYTES)),
+    )
 }
 
 /// Writes what waits in a buffer, where it may have no room for so many bytes more.

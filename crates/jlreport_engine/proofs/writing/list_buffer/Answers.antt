@@ -13,6 +13,6 @@ returns c =
     let below = c.refused_line_room-room.type_inv in
     let grown = le-mul_of_pos_right c.refused_line_room-room.result some in
     let whole = c.saturating_mul.ensures in
-    let most = c.max.ensures in
+    let most = c.saturating_add.ensures in
     let least = c.min.ensures in
     omega (arith, size, room, below, grown, whole, most, least)) c.with_capacity.ensures.exact
