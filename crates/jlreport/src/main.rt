@@ -98,7 +98,11 @@ fn serve_here(
 }
 
 /// Does what words ask for.
-fn serve_words(rt: &HostRuntime, threads: &(impl Threads + Wait + RandomSource + Sync), words: &[String]) -> u8 {
+fn serve_words(
+    rt: &HostRuntime,
+    threads: &(impl Threads + Wait + RandomSource + Sync),
+    words: &[String],
+) -> u8 {
     match texts_of(rt.alloc(), words) {
         Ok(texts) => serve_here(rt, threads, settings(rt.alloc(), texts.as_slice())),
         Err(error) => serve_here(rt, threads, Err(out_of_memory(error))),
