@@ -281,3 +281,22 @@ started-done r (Err (Run fault)) same is =
 pub started-stopped : (s : Result Done JoinFault) (fault : JoinFault) → IsErrAnd s (λ f. f ≡ fault) → fault ≢ Run ThreadNotStarted → IfErr s (λ f. f ≢ Run ThreadNotStarted)
 started-stopped (Ok done) fault is not = absurd is
 started-stopped (Err f) fault is not = λ no. not (sym is ∙ no)
+
+-- ---- joins that get no seed
+
+-- a failed read stops a join, whatever was given
+pub join-unseeded : (fault : JoinFault) (limit : Option ℕ) (fields : List Field) (q : TreeForm) (given : Option (List ℕ)) → fault ≡ Run Reading → StopsJoin fault limit fields q given
+join-unseeded fault limit fields q given is = subst (λ (f : JoinFault). StopsJoin f limit fields q given) (sym is) (tt, λ inputs are. tt)
+
+-- it says nothing of what would be read
+nothing-read : (given : Option (List ℕ)) (read : List ℕ → Result (List ContentsForm) PartedFault) → IfSome given (λ bytes. IsReadAs {X = PartialState} (Err (Run Reading)) (read bytes))
+nothing-read None read = tt
+nothing-read (Some bytes) read = tt
+
+pub reads-unseeded : (fault : JoinFault) (given : Option (List ℕ)) (read : List ℕ → Result (List ContentsForm) PartedFault) → fault ≡ Run Reading
+    → IfSome given (λ bytes. IsReadAs {X = PartialState} (Err fault) (read bytes))
+reads-unseeded fault given read is = subst (λ (f : JoinFault). IfSome given (λ bytes. IsReadAs {X = PartialState} (Err f) (read bytes))) (sym is) (nothing-read given read)
+
+-- it is none of a thread
+pub started-unseeded : (fault : JoinFault) → fault ≡ Run Reading → fault ≢ Run ThreadNotStarted
+started-unseeded fault is = λ no. let wrong = sym is ∙ no in absurd cc

@@ -72,6 +72,10 @@ stops-gathered gathering.OutOfMemory limit fields known stops = tt
 stops-gathered gathering.ThreadNotStarted limit fields known stops = tt
 stops-gathered (gathering.TooManyRefused most) limit fields known stops = stops
 
+-- a run that gets no seed stops as by a failed read, whatever its input
+pub stops-unseeded : (fault : RunFault) (limit : Option ℕ) (fields : List Field) (known : Option (List ℕ)) → fault ≡ Reading → StopsRun fault limit fields known
+stops-unseeded fault limit fields known is = subst (λ (f : RunFault). StopsRun f limit fields known) (sym is) tt
+
 -- where no thread is wanted for the result, none is wanted for the run
 pub thread-gathered : (fault : GatherFault) → fault ≢ gathering.ThreadNotStarted → fault_of_gathering fault ≢ ThreadNotStarted
 thread-gathered gathering.Reading h = λ no. let wrong = no in absurd cc

@@ -17,7 +17,7 @@ use std::io::{Read, Write};
 use std::marker::{Send, Sync};
 use std::random::RandomSource;
 use std::thread::Threads;
-use tables::{Executor, Parallel, Partial};
+use tables::{Executor, HashSeed, Parallel, Partial};
 
 /// Joins the parts that a reader gives, one behind the other: writes the report over all their inputs to `out` and
 /// flushes it, and then the list of refused lines to `err` and flushes it. This is what `run` writes of the inputs,
@@ -55,10 +55,11 @@ pub fn run_join<R: Read + Drop, O: Write, E: Write, H: Threads + RandomSource + 
         IsReadOf plan.now.fields plan.now.query bytes result) }
     ensures started { IfErr result (λ fault. fault ≢ JoinFault.Run RunFault.ThreadNotStarted) }
 {
+    let seed = seed_of_join(rt)?;
     let parallel = Parallel {
         rt,
         workers: options.workers(),
-        seed: random_seed(rt).map_err(JoinFault::Run)?,
+        seed,
     };
     let whole = join_within(alloc, plan, options, &parallel, reader)?;
     write_whole(&parallel, alloc, plan, whole, out, err).map_err(JoinFault::Run)
@@ -93,13 +94,24 @@ pub fn join_partial<R: Read + Drop, O: Write, H: Threads + RandomSource + Sync>(
         IsReadOf plan.now.fields plan.now.query bytes result) }
     ensures started { IfErr result (λ fault. fault ≢ JoinFault.Run RunFault.ThreadNotStarted) }
 {
+    let seed = seed_of_join(rt)?;
     let parallel = Parallel {
         rt,
         workers: options.workers(),
-        seed: random_seed(rt).map_err(JoinFault::Run)?,
+        seed,
     };
     let whole = join_within(alloc, plan, options, &parallel, reader)?;
     write_whole_part(alloc, plan, whole, out).map_err(JoinFault::Run)
+}
+
+/// The seed of a join.
+fn seed_of_join<H: RandomSource>(rt: &H) -> Result<HashSeed, JoinFault>
+    ensures { IfErr result (λ fault. fault ≡ JoinFault.Run RunFault.Reading) }
+{
+    match random_seed(rt) {
+        Ok(seed) => Ok(seed),
+        Err(fault) => Err(JoinFault::Run(fault)),
+    }
 }
 
 /// The result over all inputs whose parts a reader gives, if not more of their lines are refused than the options allow.

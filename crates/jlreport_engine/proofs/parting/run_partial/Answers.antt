@@ -1,6 +1,6 @@
 use Rattle.jlreport_scan.specs.RunFaults.{fault_of_gathering}
 use Rattle.jlreport_engine.proofs.Known.{stands-gathered, within}
-use Rattle.jlreport_engine.proofs.Outcomes.{part-stopped, stops-gathered}
+use Rattle.jlreport_engine.proofs.Outcomes.{part-stopped, stops-gathered, stops-unseeded}
 use Rattle.jlreport_engine.proofs.parting.run_partial.Goals as goal
 
 pub returns-clause-run : goal.returns-clause-run
@@ -15,6 +15,13 @@ pub returns-in_err-whole-clause-run : goal.returns-in_err-whole-clause-run
 returns-in_err-whole-clause-run g c =
     let fault = c.in_err-whole.field-0.0 in
     let known = g.R.Read.remaining c.args.reader in
-    part-stopped c.from_residual.result (fault_of_gathering fault) c.args.options.max_refused c.args.plan.now.fields c.args.plan.now.query known
-    (g.O.Write.contents c.args.out.now) c.from_residual.ensures.1
+    part-stopped c.from_residual-in_err-whole.result (fault_of_gathering fault) c.args.options.max_refused c.args.plan.now.fields c.args.plan.now.query known
+    (g.O.Write.contents c.args.out.now) c.from_residual-in_err-whole.ensures.1
     (stops-gathered fault c.args.options.max_refused c.args.plan.now.fields known c.in_err-whole.ensures.gather.stops)
+
+pub returns-in_err-seed-clause-run : goal.returns-in_err-seed-clause-run
+returns-in_err-seed-clause-run g c =
+    let known = g.R.Read.remaining c.args.reader in
+    part-stopped c.from_residual-in_err-seed.result c.in_err-seed.field-0.0 c.args.options.max_refused c.args.plan.now.fields c.args.plan.now.query known
+    (g.O.Write.contents c.args.out.now) c.from_residual-in_err-seed.ensures.1
+    (stops-unseeded c.in_err-seed.field-0.0 c.args.options.max_refused c.args.plan.now.fields known c.in_err-seed.ensures)
