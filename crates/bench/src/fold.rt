@@ -59,7 +59,11 @@ pub(crate) fn result_of<R: Threads + Wait + Sync>(
         return None;
     }
     job_law();
-    let executor = Parallel { rt, workers: hands, seed: HashSeed::Fixed };
+    let executor = Parallel {
+        rt,
+        workers: hands,
+        seed: HashSeed::Fixed,
+    };
     let job = JobBy::new(
         Job::new(alloc, plan, input, pieces.as_slice()),
         &executor,
@@ -88,7 +92,14 @@ fn work<R: Threads + Wait + Clock + Print + Eprint + Sync>(
     };
     let (lines, refused) = (result.lines(), result.refused());
     sound_law();
-    let Ok(groups) = result.finish_by(&Parallel { rt, workers: hands, seed: HashSeed::Fixed }, plan) else {
+    let Ok(groups) = result.finish_by(
+        &Parallel {
+            rt,
+            workers: hands,
+            seed: HashSeed::Fixed,
+        },
+        plan,
+    ) else {
         return Ok(());
     };
     let taken = start.elapsed(rt)?.as_nanos();

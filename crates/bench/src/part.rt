@@ -41,7 +41,11 @@ fn work<R: Threads + Wait + Clock + Print + Eprint + Sync>(
     };
     let written = start.elapsed(rt)?.as_nanos();
     let start = Instant::now(rt)?;
-    let executor = Parallel { rt, workers: hands, seed: HashSeed::Fixed };
+    let executor = Parallel {
+        rt,
+        workers: hands,
+        seed: HashSeed::Fixed,
+    };
     let Ok(again) = read_parts(alloc, plan, &executor, part.as_slice()) else {
         return Ok(());
     };

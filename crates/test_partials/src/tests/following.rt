@@ -150,7 +150,14 @@ pub fn follow_by_hands<H: Abort + Threads + Sync>(
         Ok(whole) => {
             assert!(rt; whole.same_shape(&behind));
             assert!(rt; whole.lines() + behind.lines() < 1 << 63);
-            whole.follow_by(&Parallel { rt, workers: count, seed: HashSeed::Fixed }, behind)
+            whole.follow_by(
+                &Parallel {
+                    rt,
+                    workers: count,
+                    seed: HashSeed::Fixed,
+                },
+                behind,
+            )
         }
         Err(refused) => {
             drop(behind);

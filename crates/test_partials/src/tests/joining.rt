@@ -36,7 +36,15 @@ fn begun_by_hands<H: Abort + Threads + Sync>(
 ) -> Result<Partial, AllocError>
     ensures { IfOk result (IsPartialOf plan.now.fields plan.now.query) }
 {
-    let begun = Partial::empty_by(alloc, plan, &Parallel { rt, workers: count, seed: HashSeed::Fixed })?;
+    let begun = Partial::empty_by(
+        alloc,
+        plan,
+        &Parallel {
+            rt,
+            workers: count,
+            seed: HashSeed::Fixed,
+        },
+    )?;
     assert!(rt; begun.lines() < 1 << 62);
     assert!(rt; has_few_lines(piece));
     begun.fold_onto(plan, index, piece)
@@ -86,7 +94,14 @@ fn assert_finds<H: Abort + Threads + Sync>(
 {
     sound_law();
     let groups = partial
-        .finish_by(&Parallel { rt, workers: count, seed: HashSeed::Fixed }, plan)
+        .finish_by(
+            &Parallel {
+                rt,
+                workers: count,
+                seed: HashSeed::Fixed,
+            },
+            plan,
+        )
         .expect(rt, "memory");
     assert_eq!(rt; groups.rows().len(), wanted.rows().len());
     let rows = sorted_rows(rt, alloc, &groups);

@@ -98,7 +98,14 @@ pub fn merge_by_hands<H: Abort + Threads + Sync>(
 {
     assert!(rt; left.same_shape(&right));
     assert!(rt; left.lines() + right.lines() < 1 << 63);
-    left.merge_by(&Parallel { rt, workers: count, seed: HashSeed::Fixed }, right)
+    left.merge_by(
+        &Parallel {
+            rt,
+            workers: count,
+            seed: HashSeed::Fixed,
+        },
+        right,
+    )
 }
 
 /// The result over a piece of an input.
@@ -636,7 +643,15 @@ fn first_by_hands<H: Abort + Threads + Sync>(
 ) -> Result<Partial, AllocError>
     ensures { IfOk result (IsPartialOf plan.now.fields plan.now.query) }
 {
-    let begun = Partial::empty_by(alloc, plan, &Parallel { rt, workers: 3, seed: HashSeed::Fixed })?;
+    let begun = Partial::empty_by(
+        alloc,
+        plan,
+        &Parallel {
+            rt,
+            workers: 3,
+            seed: HashSeed::Fixed,
+        },
+    )?;
     assert!(rt; begun.lines() < 1 << 62);
     begun.fold_onto(plan, 0, &FOUR[..FIRST_LEN])
 }
@@ -673,7 +688,14 @@ fn assert_four_by_hands<H: Abort + Threads + Sync>(
     };
     assert_four_counted(rt, &partial);
     sound_law();
-    if let Ok(groups) = partial.finish_by(&Parallel { rt, workers: 3, seed: HashSeed::Fixed }, plan) {
+    if let Ok(groups) = partial.finish_by(
+        &Parallel {
+            rt,
+            workers: 3,
+            seed: HashSeed::Fixed,
+        },
+        plan,
+    ) {
         let refused = [(3, LineFault::NoObject)];
         assert_two_found(rt, &groups, refused.as_slice());
         groups.give_back_among(rt, alloc, 3);
