@@ -35,15 +35,15 @@ returns-in_err-whole-clause-started g c = started-stopped c.from_residual-in_err
 
 pub returns-in_err-seed-clause-join : goal.returns-in_err-seed-clause-join
 returns-in_err-seed-clause-join g c =
-    partial-join-stopped c.from_residual-in_err-seed.result c.in_err-seed.field-0.0 c.args.options.max_refused c.args.plan.now.fields c.args.plan.now.query (g.R.Read.remaining c.args.reader)
-    (g.O.Write.contents c.args.out.now) c.from_residual-in_err-seed.ensures.1
+    partial-join-stopped c.from_residual.result c.in_err-seed.field-0.0 c.args.options.max_refused c.args.plan.now.fields c.args.plan.now.query (g.R.Read.remaining c.args.reader)
+    (g.O.Write.contents c.args.out.now) c.from_residual.ensures.1
     (join-unseeded c.in_err-seed.field-0.0 c.args.options.max_refused c.args.plan.now.fields c.args.plan.now.query (g.R.Read.remaining c.args.reader) c.in_err-seed.ensures)
 
 pub returns-in_err-seed-clause-reads : goal.returns-in_err-seed-clause-reads
 returns-in_err-seed-clause-reads g c =
-    reads-stopped c.from_residual-in_err-seed.result c.in_err-seed.field-0.0 (g.R.Read.remaining c.args.reader) (λ bytes. parts_at c.args.plan.now.fields c.args.plan.now.query (lines (clip_lines bytes)))
-    c.from_residual-in_err-seed.ensures.1 (reads-unseeded c.in_err-seed.field-0.0 (g.R.Read.remaining c.args.reader) _ c.in_err-seed.ensures)
+    reads-stopped c.from_residual.result c.in_err-seed.field-0.0 (g.R.Read.remaining c.args.reader) (λ bytes. parts_at c.args.plan.now.fields c.args.plan.now.query (lines (clip_lines bytes)))
+    c.from_residual.ensures.1 (reads-unseeded c.in_err-seed.field-0.0 (g.R.Read.remaining c.args.reader) _ c.in_err-seed.ensures)
 
 pub returns-in_err-seed-clause-started : goal.returns-in_err-seed-clause-started
 returns-in_err-seed-clause-started g c =
-    started-stopped c.from_residual-in_err-seed.result c.in_err-seed.field-0.0 c.from_residual-in_err-seed.ensures.1 (started-unseeded c.in_err-seed.field-0.0 c.in_err-seed.ensures)
+    started-stopped c.from_residual.result c.in_err-seed.field-0.0 c.from_residual.ensures.1 (started-unseeded c.in_err-seed.field-0.0 c.in_err-seed.ensures)

@@ -22,6 +22,6 @@ returns-in_err-whole-clause-run g c =
 pub returns-in_err-seed-clause-run : goal.returns-in_err-seed-clause-run
 returns-in_err-seed-clause-run g c =
     let known = g.R.Read.remaining c.args.reader in
-    part-stopped c.from_residual-in_err-seed.result c.in_err-seed.field-0.0 c.args.options.max_refused c.args.plan.now.fields c.args.plan.now.query known
-    (g.O.Write.contents c.args.out.now) c.from_residual-in_err-seed.ensures.1
+    part-stopped c.from_residual.result c.in_err-seed.field-0.0 c.args.options.max_refused c.args.plan.now.fields c.args.plan.now.query known
+    (g.O.Write.contents c.args.out.now) c.from_residual.ensures.1
     (stops-unseeded c.in_err-seed.field-0.0 c.args.options.max_refused c.args.plan.now.fields known c.in_err-seed.ensures)
