@@ -7,6 +7,7 @@ use std::alloc::Global;
 use std::io::ErrorKind;
 use std::marker::Sync;
 use std::process::Abort;
+use std::random::RandomSource;
 use std::sync::Wait;
 use std::thread::Threads;
 
@@ -28,7 +29,7 @@ const AN_EXPLANATION: &[&str] = &[
 
 /// Asserts that the program ends with 3, and has then written so many bytes of a text.
 fn assert_not_written(
-    rt: &(impl Abort + Threads + Wait + Sync),
+    rt: &(impl Abort + Threads + Wait + RandomSource + Sync),
     alloc: Global,
     words: &[&str],
     (room, flushes): (usize, bool),
@@ -76,7 +77,7 @@ const THREAD_NOT_STARTED: &[u8] = b"jlreport: a thread could not be started\n\0"
 /// Asserts that the program writes this and ends so, or, where memory is refused, says so and ends with 4. Where only the
 /// text of a fault gets no memory, it says so and ends with the status of the fault.
 fn assert_served(
-    rt: &(impl Abort + Threads + Wait + Sync),
+    rt: &(impl Abort + Threads + Wait + RandomSource + Sync),
     alloc: Global,
     words: &[&str],
     (status, report, told): (u8, &[u8], &[u8]),
