@@ -56,16 +56,17 @@ def is_current(file, source):
 
 def link_statically(kit, name):
     """Links a program with the C library in it, by gcc, unless it was since it was compiled. Where that cannot be, as where
-    gcc or its libc.a is missing, the one that needs the C library of the machine takes its place, and standard error says
-    so."""
-    to = static_program_of(name)
-    if is_current(to, object_of(name)):
+    gcc or its libc.a is missing, or `rt ci` has kept the program alone and not what was compiled, the one that needs the C
+    library of the machine takes its place, and standard error says so."""
+    to, compiled = static_program_of(name), object_of(name)
+    is_compiled = os.path.isfile(compiled)
+    if is_current(to, compiled if is_compiled else program_of(name)):
         return
     os.makedirs(os.path.dirname(to), exist_ok=True)
     new = f"{to}.{os.getpid()}"
-    if not has_linked(["gcc", "-static", "-o", new, object_of(name), *archives(kit)], name):
-        print(f"jlreport: {name} needs the C library of this machine, as gcc cannot link it statically; its words are in "
-              f"{log_of(name)}", file=sys.stderr)
+    if not is_compiled or not has_linked(["gcc", "-static", "-o", new, compiled, *archives(kit)], name):
+        why = f"gcc cannot link it statically; its words are in {log_of(name)}" if is_compiled else f"there is no {compiled}"
+        print(f"jlreport: {name} needs the C library of this machine, as {why}", file=sys.stderr)
         shutil.copyfile(program_of(name), new)
         shutil.copymode(program_of(name), new)
     os.replace(new, to)
