@@ -149,9 +149,10 @@ pub(crate) fn write_whole<X: ReportExecutor, O: Write, E: Write>(
     ) {
         return Err(fault);
     }
-    // The large piece of memory goes back before the many small ones: a large one has the allocator look at each small one
-    // that lies with it.
+    // The two large pieces of memory go back before the many small ones: a large one has the allocator look at each small
+    // one that lies with it.
     drop(report);
+    drop(buffer);
     executor.give_back(alloc, groups);
     Ok(done)
 }
