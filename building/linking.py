@@ -64,7 +64,7 @@ def link_statically(kit, name):
         return
     os.makedirs(os.path.dirname(to), exist_ok=True)
     new = f"{to}.{os.getpid()}"
-    if not is_compiled or not has_linked(["gcc", "-static", "-o", new, compiled, *archives(kit)], name):
+    if not is_compiled or not has_linked(["gcc", "-static-pie", "-o", new, compiled, *archives(kit)], name):
         why = f"gcc cannot link it statically; its words are in {log_of(name)}" if is_compiled else f"there is no {compiled}"
         print(f"jlreport: {name} needs the C library of this machine, as {why}", file=sys.stderr)
         shutil.copyfile(program_of(name), new)
