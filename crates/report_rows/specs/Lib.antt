@@ -1,5 +1,4 @@
 pub mod Shown
-pub mod Order
 pub mod Laws
 pub mod Planned
 pub mod Having
