@@ -19,7 +19,7 @@ told() {
     echo "status $status, $report report, $list list"
 }
 
-# put_first: puts the script of its input in front of the program, which it finds as $real. The shard, or /dev/stdin, is the
+# put_first: puts the script of its input in front of the program, which it finds as $real. The shard, or -, is the
 # last of its words, $shard.
 put_first() {
     mkdir -p first
