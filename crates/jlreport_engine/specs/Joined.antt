@@ -6,10 +6,12 @@ use Rattle.parts.specs.ReadingParts.{parts_at}
 use Rattle.parts.specs.declared.fault.PartsRefusal.{PartsRefusal}
 use Rattle.parts.specs.declared.fault.PartsRefusal.TheVariants as refusal
 use Rattle.query_plan.specs.Planned.{PlannedQuery}
+use Rattle.semantics.specs.Columns.{Field}
 use Rattle.semantics.specs.Joins.{ArePartsOf, CanBeJoined}
 use Rattle.semantics.specs.Lines.{lines}
 use Rattle.semantics.specs.Parts.{concatenated}
 use Rattle.semantics.specs.Run.{IsWithin}
+use Rattle.semantics.specs.Syntax.{TreeForm}
 use Rattle.semantics.specs.declared.join_fault.JoinFault.{JoinFault}
 use Rattle.semantics.specs.declared.join_fault.JoinFault.TheVariants.{Parts, Run}
 use Rattle.semantics.specs.declared.run_fault.RunFault.{RunFault}
@@ -32,12 +34,12 @@ IsOver limit count fault = ⊥
 
 -- Before anything is written a join fails by a fault of the parts, where no parts that can be joined were given, or
 -- as a run may over the inputs whose parts were given, one behind the other, and over some input.
-abbrev pub StopsJoin : JoinFault → Option ℕ → PlannedQuery → Option (List ℕ) → Type 0
-StopsJoin (Parts fault) limit plan given =
-    (inputs : List (List ℕ)) → ArePartsOf plan.fields plan.query inputs given → ¬ CanBeJoined plan.fields plan.query inputs
-StopsJoin (Run fault) limit plan given =
-    StopsRun fault limit plan.fields None
-    × ((inputs : List (List ℕ)) → ArePartsOf plan.fields plan.query inputs given → StopsRun fault limit plan.fields (Some (concatenated inputs)))
+abbrev pub StopsJoin : JoinFault → Option ℕ → List Field → TreeForm → Option (List ℕ) → Type 0
+StopsJoin (Parts fault) limit fields q given =
+    (inputs : List (List ℕ)) → ArePartsOf fields q inputs given → ¬ CanBeJoined fields q inputs
+StopsJoin (Run fault) limit fields q given =
+    StopsRun fault limit fields None
+    × ((inputs : List (List ℕ)) → ArePartsOf fields q inputs given → StopsRun fault limit fields (Some (concatenated inputs)))
 
 -- What was read is joined: the result is one that the plan can finish, not more of its lines are refused than the
 -- limit, and it stands for the inputs whose parts were given, one behind the other. Or there is a fault, which is
@@ -46,7 +48,7 @@ pub record IsJoined (result : Result PartialState JoinFault) (limit : Option ℕ
   pub sound : IfOk result (IsSoundUnder plan)
   pub within : IfOk result (λ partial. IsWithin limit partial.refused)
   pub stands : IfOk result (λ partial. (inputs : List (List ℕ)) → ArePartsOf plan.fields plan.query inputs given
-      → StandsForInput plan partial (concatenated inputs))
-  pub stops : IfErr result (λ fault. StopsJoin fault limit plan given)
+      → StandsForInput plan.fields plan.query partial (concatenated inputs))
+  pub stops : IfErr result (λ fault. StopsJoin fault limit plan.fields plan.query given)
   pub started : IfErr result (λ fault. fault ≢ Run ThreadNotStarted)
   pub reads : IfSome given (λ bytes. IsReadAs result (parts_at plan.fields plan.query (lines (clip_lines bytes))))

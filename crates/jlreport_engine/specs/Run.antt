@@ -3,11 +3,11 @@ use Rattle.std.specs.Prelude.{◌≡◌, ◌<◌, ⊤, ℕ, List, Option, Some, 
 use Rattle.semantics.specs.Columns.{Field}
 use Rattle.semantics.specs.Lines.{lines}
 use Rattle.semantics.specs.Records.{refused_lines, valid_records}
+use Rattle.semantics.specs.Syntax.{TreeForm}
 use Rattle.semantics.specs.declared.run_fault.RunFault.{RunFault}
 use Rattle.semantics.specs.declared.run_fault.RunFault.TheVariants.{Reading, OutOfMemory, ThreadNotStarted, TooManyRefused, WritingReport, WritingRefused, WritingPart}
 use Rattle.tables.specs.Partials.{StandsForInput}
 use Rattle.tables.specs.States.{PartialState}
-use Rattle.query_plan.specs.Planned.{PlannedQuery}
 
 -- Bytes are read as an input is: they have as many lines, the same good records and the same refused lines.
 pub record AreReadAs (fields : List Field) (bytes input : List ℕ) : Type 0 where
@@ -16,14 +16,14 @@ pub record AreReadAs (fields : List Field) (bytes input : List ℕ) : Type 0 whe
   pub refused : refused_lines fields bytes ≡ refused_lines fields input
 
 -- A result stands for bytes that are read as an input is.
-pub record StandsForReading (plan : PlannedQuery) (partial : PartialState) (input : List ℕ) : Type 0 where
+pub record StandsForReading (fields : List Field) (q : TreeForm) (partial : PartialState) (input : List ℕ) : Type 0 where
   pub bytes : List ℕ
-  pub stands : StandsForInput plan partial bytes
-  pub same : AreReadAs plan.fields bytes input
+  pub stands : StandsForInput fields q partial bytes
+  pub same : AreReadAs fields bytes input
 
 -- So it does for the input, where that is known.
-abbrev pub StandsForKnown : PlannedQuery → Option (List ℕ) → PartialState → Type 0
-StandsForKnown plan known partial = IfSome known (StandsForReading plan partial)
+abbrev pub StandsForKnown : List Field → TreeForm → Option (List ℕ) → PartialState → Type 0
+StandsForKnown fields q known partial = IfSome known (StandsForReading fields q partial)
 
 -- What a fault says of the input, where that is known, before anything is written: that more of its lines are refused
 -- than the limit, where it says so; of a read, of memory and of a thread it says nothing more.

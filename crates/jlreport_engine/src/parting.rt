@@ -62,7 +62,7 @@ pub(crate) fn write_whole_part<O: Write>(
     out: &mut O,
 ) -> Result<Done, RunFault>
     ensures run { (limit : Option ℕ) (known : Option (List ℕ)) → IsWithin limit whole.refused
-        → StandsForKnown plan.now known whole
+        → StandsForKnown plan.now.fields plan.now.query known whole
         → IsPartialRun result limit plan.now.fields plan.now.query known
         (O.contents out.old) (O.contents out.new) }
     ensures started { IfErr result (λ fault. fault ≢ RunFault.ThreadNotStarted) }

@@ -1,6 +1,7 @@
 -- The result over the rounds so far, and over a round behind them. Private calls alone speak of it.
 use Rattle.std.specs.Prelude.{◌≡◌, ◌⊎◌, ◌<◌, ◌≤◌, ◌+◌, ◌-◌, ◌*◌, ◌++◌, Bool, true, false, if◌then◌else◌, ℕ, All, List, Ok, Option, length, option_map, vec_len}
 use Rattle.std.specs.Io.KnownBytes.{Consumes}
+use Rattle.semantics.specs.Columns.{Field}
 use Rattle.lines.specs.declared.pieces.Piece.{Piece}
 use Rattle.lines.specs.Pieces.{AreWholeLines}
 use Rattle.lines.specs.Rounds.{HasMoved, RoundsState}
@@ -9,12 +10,13 @@ use Rattle.pool.specs.declared.laws.Outcome.{Outcome}
 use Rattle.pool.specs.declared.laws.Outcome.TheVariants.{Whole, Over}
 use Rattle.pool.specs.Holding.{Holding}
 use Rattle.pool.specs.Settled.{AreAll, AreRun, HaveEachOnce, pieces_of}
-use Rattle.tables.specs.Pieces.{indexed_pieces}
+use Rattle.tables.specs.Denotations.{indexed_pieces}
 use Rattle.tables.specs.Pieces.{IsCutInto}
 use Rattle.jlreport_cli.specs.declared.options.Options.{Options}
 use Rattle.jlreport_scan.specs.declared.rounds.Ahead.{Ahead}
 use Rattle.jlreport_scan.specs.Gathered.{IsWhole, limit_number}
 use Rattle.query_plan.specs.Planned.{PlannedQuery}
+use Rattle.semantics.specs.Syntax.{TreeForm}
 use Rattle.tables.specs.declared.partial.Partial.{Partial}
 use Rattle.tables.specs.Partials.{StandsForInput}
 use Rattle.tables.specs.States.{PartialState}
@@ -33,14 +35,14 @@ pub record IsTaken (workers : ℕ) (round : List ℕ) (pieces : List Piece) (han
   pub once : HaveEachOnce hands
 
 -- a result stands for whatever another one stands for, where that is whole lines, with the rest behind it
-pub record StandsBehind (plan : PlannedQuery) (before : PartialState) (rest : List ℕ) (partial : PartialState) : Type 0 where
-  pub behind : (front : List ℕ) → StandsForInput plan before front → AreWholeLines front → StandsForInput plan partial (front ++ rest)
+pub record StandsBehind (fields : List Field) (q : TreeForm) (before : PartialState) (rest : List ℕ) (partial : PartialState) : Type 0 where
+  pub behind : (front : List ℕ) → StandsForInput fields q before front → AreWholeLines front → StandsForInput fields q partial (front ++ rest)
 
 -- Between two rounds the partial result stands for the bytes of all rounds so far. Where it is known what the reader gives, these and what is left make up
 -- that, clipped. They are counted; they are whole lines, unless the last round was given; and not more of their lines are refused than the limit.
-pub record StandsForRounds {R : Type 0} (plan : PlannedQuery) (known : Option (List ℕ)) (limit : ℕ) (rounds : RoundsState R) (partial : PartialState) : Type 0 where
+pub record StandsForRounds {R : Type 0} (fields : List Field) (q : TreeForm) (known : Option (List ℕ)) (limit : ℕ) (rounds : RoundsState R) (partial : PartialState) : Type 0 where
   pub bytes : List ℕ
-  pub stands : StandsForInput plan partial bytes
+  pub stands : StandsForInput fields q partial bytes
   pub left : Consumes (option_map clip_lines known) rounds.left bytes
   pub count : rounds.given ≡ length bytes
   pub ends : AreWholeLines bytes ⊎ (rounds.over ≡ true)
@@ -51,8 +53,8 @@ pub record StandsForRounds {R : Type 0} (plan : PlannedQuery) (known : Option (L
 pub record IsAheadUnder {L R : Type 0} (plan : PlannedQuery) (options : Options) (known : Option (List ℕ)) (ahead : Ahead L R) : Type 0 where
   pub size : ahead.rounds.size ≡ options.round
   pub spare : ahead.spare.size ≡ options.round
-  pub more : ahead.found ≡ true → (old : RoundsState R) × StandsForRounds plan known (limit_number options.max_refused) old ahead.whole × HasMoved old (Ok true) ahead.rounds
-  pub none : ahead.found ≡ false → IsWhole plan known ahead.whole
+  pub more : ahead.found ≡ true → (old : RoundsState R) × StandsForRounds plan.fields plan.query known (limit_number options.max_refused) old ahead.whole × HasMoved old (Ok true) ahead.rounds
+  pub none : ahead.found ≡ false → IsWhole plan.fields plan.query known ahead.whole
   pub within : ahead.whole.refused ≤ limit_number options.max_refused
   pub hands : vec_len ahead.shares ≡ options.workers
   pub reported : All (λ share. share.sum ≤ ahead.whole.refused) ahead.shares.items

@@ -43,7 +43,7 @@ pub fn gather_alone<R: Read + Drop>(
     options: Options,
     reader: R,
 ) -> Result<Partial, GatherFault>
-    ensures gather { IsGather result options.max_refused plan.now
+    ensures gather { IsGather result options.max_refused plan.now.fields plan.now.query
         (R.remaining reader) }
     ensures started { IfErr result (λ fault. fault ≢ GatherFault.ThreadNotStarted) }
 {
@@ -58,7 +58,7 @@ fn gather_by<X: Executor, R: Read + Drop>(
     options: Options,
     reader: R,
 ) -> Result<Partial, GatherFault>
-    ensures gather { IsGather result options.max_refused plan.now
+    ensures gather { IsGather result options.max_refused plan.now.fields plan.now.query
         (R.remaining reader) }
     ensures started { IfErr result (λ fault. fault ≢ GatherFault.ThreadNotStarted) }
 {
@@ -93,7 +93,7 @@ pub fn gather<R: Read + Drop + Send, H: Threads + Wait + Sync>(
     seed: HashSeed,
     reader: R,
 ) -> Result<Partial, GatherFault>
-    ensures gather { IsGather result options.max_refused plan.now
+    ensures gather { IsGather result options.max_refused plan.now.fields plan.now.query
         (R.remaining reader) }
     ensures started { options.workers ≡ 1
         → IfErr result (λ fault. fault ≢ GatherFault.ThreadNotStarted) }
@@ -120,7 +120,7 @@ fn gather_reading_ahead<L: Ledger + Send + Sync, R: Read + Drop + Send, H: Threa
 ) -> Result<Partial, GatherFault>
     requires name { blank.name ≡ L.name }
     requires parts { (blank.parts ≡ L.parts) × (L.parts ≡ options.workers) }
-    ensures { IsGather result options.max_refused plan.now
+    ensures { IsGather result options.max_refused plan.now.fields plan.now.query
         (R.remaining reader) }
 {
     let (book, shares) = Book::<L>::new(alloc, blank, options.workers())?;
@@ -262,13 +262,14 @@ fn work_and_read_on<L: Ledger + Send + Sync, R: Read + Drop + Send, H: Threads +
     shares: Vec<Share<L>>,
 ) -> RoundAndRead<L, R>
     requires front { (front : List ℕ)
-        × StandsForInput scan.now.plan.now before front
+        × StandsForInput scan.now.plan.now.fields scan.now.plan.now.query before front
         × AreWholeLines front }
     requires short { before.lines + length round.now.bytes < 2 ^ 63 }
     requires hands { (1 ≤ vec_len shares) × (vec_len shares ≤ 64) }
     requires reported { All (λ share. share.sum ≤ before.refused) shares.items }
     ensures read { HasMoved rounds result.found result.rounds }
-    ensures whole { IfOk result.outcome (λ r. StandsBehind scan.now.plan.now before round.now.bytes r.whole) }
+    ensures whole { IfOk result.outcome (λ r. StandsBehind scan.now.plan.now.fields
+        scan.now.plan.now.query before round.now.bytes r.whole) }
     ensures limit { IfOk result.outcome (λ r.
         r.whole.refused ≤ limit_number scan.now.options.max_refused) }
     ensures taken { IfOk result.outcome (λ r.
@@ -296,7 +297,7 @@ fn work_and_read_on<L: Ledger + Send + Sync, R: Read + Drop + Send, H: Threads +
         move || read_on(rounds, demand),
         move || -> Result<RoundOutcome<L>, GatherFault>
             requires front { (front : List ℕ)
-                × StandsForInput scan.now.plan.now before front
+                × StandsForInput scan.now.plan.now.fields scan.now.plan.now.query before front
                 × AreWholeLines front }
             requires short { before.lines + length round.now.bytes < 2 ^ 63 }
             requires hands { (1 ≤ vec_len shares) × (vec_len shares ≤ 64) }

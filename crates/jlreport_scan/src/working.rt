@@ -69,12 +69,13 @@ pub(crate) fn work_on_round<L: Ledger + Send + Sync, H: Threads + Wait + Sync>(
     shares: Vec<Share<L>>,
 ) -> Result<RoundOutcome<L>, GatherFault>
     requires front { (front : List ℕ)
-        × StandsForInput scan.now.plan.now before front
+        × StandsForInput scan.now.plan.now.fields scan.now.plan.now.query before front
         × AreWholeLines front }
     requires short { before.lines + length round.now < 2 ^ 63 }
     requires hands { (1 ≤ vec_len shares) × (vec_len shares ≤ 64) }
     requires reported { All (λ share. share.sum ≤ before.refused) shares.items }
-    ensures whole { IfOk result (λ r. StandsBehind scan.now.plan.now before round.now r.whole) }
+    ensures whole { IfOk result (λ r. StandsBehind scan.now.plan.now.fields
+        scan.now.plan.now.query before round.now r.whole) }
     ensures limit { IfOk result (λ r.
         r.whole.refused ≤ limit_number scan.now.options.max_refused) }
     ensures taken { IfOk result (λ r.

@@ -62,7 +62,7 @@ module _ (plan : PlannedQuery) (ls : List (List ℕ)) (some : ls ≢ []) where
 -- ---- of parts that were written
 
 written-stands : (plan : PlannedQuery) (bytes : List ℕ) (r : Result PartialState PartsRefusal) → IsSchema plan.fields → AnswersParts plan (lines (clip_lines bytes)) r → (inputs : List (List ℕ)) → bytes ≡ flat_map (part_text plan.fields plan.query) inputs
-    → IfOk r (λ partial. StandsForInput plan partial (concatenated inputs))
+    → IfOk r (λ partial. StandsForInput plan.fields plan.query partial (concatenated inputs))
 written-stands plan bytes (Err e) schema answers inputs is = tt
 written-stands plan bytes (Ok partial) schema answers inputs is =
     answers.stands inputs
@@ -95,6 +95,6 @@ module _ (plan : PlannedQuery) (reader seen : ReaderState) (same : IsKnown reade
       (subst (λ (s : Stream). with_fault (in_part 1) (part_at plan.fields plan.query 0 s) ≡ Ok (contents_in first, stream_of after)) (same is ∙ there) (read is)) (joins is)
 
 pub known-stands : (plan : PlannedQuery) (known : Option (List ℕ)) (r : Result PartialState PartsRefusal) → IsSchema plan.fields → IfSome known (λ bytes. AnswersParts plan (lines (clip_lines bytes)) r)
-    → IfSome known (λ bytes. (inputs : List (List ℕ)) → bytes ≡ flat_map (part_text plan.fields plan.query) inputs → IfOk r (λ partial. StandsForInput plan partial (concatenated inputs)))
+    → IfSome known (λ bytes. (inputs : List (List ℕ)) → bytes ≡ flat_map (part_text plan.fields plan.query) inputs → IfOk r (λ partial. StandsForInput plan.fields plan.query partial (concatenated inputs)))
 known-stands plan None r schema answers = tt
 known-stands plan (Some bytes) r schema answers = written-stands plan bytes r schema answers

@@ -1,16 +1,13 @@
 -- Parts that are joined one after the other, as a loop does it.
-use Rattle.std.proofs.Common.{◌≡◌, ◌≢◌, ◌+◌, ℕ, List, [], ◌∷◌, ◌++◌, map, nat_eq, Result, Ok, Err, refl, sym, ap, subst, ◌∙◌, append_assoc, append-nil}
+use Rattle.std.proofs.Common.{◌≡◌, ◌≢◌, ◌+◌, ℕ, List, [], ◌∷◌, ◌++◌, map, Result, Ok, Err, refl, sym, ap, subst, ◌∙◌, append_assoc, append-nil}
 use Rattle.std.proofs.lemmas.Grind.{flat_map-append}
 use Rattle.std.proofs.lemmas.List.Concat.{flat_map-cons}
-use Rattle.std.specs.List.{IsDistinct}
 use Rattle.part_groups.specs.Reading.{Stream}
 use Rattle.query_plan.specs.Planned.{PlannedQuery}
-use Rattle.tables.proofs.Following.{one-cut}
-use Rattle.tables.proofs.OnePiece.{behind-stands}
+use Rattle.tables.proofs.Following.{one-piece}
 use Rattle.tables.specs.Contents.{HasContents}
-use Rattle.tables.specs.Notes.{Noted}
 use Rattle.semantics.specs.Parts.{ContentsForm, contents_over, closed, concatenated}
-use Rattle.tables.specs.Partials.{HasOwnIndexes, StandsForInput, concatenation, one_piece}
+use Rattle.tables.specs.Partials.{IsConcatenationOf, StandsForInput, whole_piece}
 use Rattle.tables.specs.Sound.{IsSoundUnder}
 use Rattle.tables.specs.States.{PartialState}
 use Rattle.parts.specs.declared.fault.PartsRefusal.{PartsRefusal}
@@ -29,7 +26,7 @@ use Rattle.parts.proofs.Onward.{at_end, at_fault, at_part}
 abbrev pub ContentsLaw : Type 0
 ContentsLaw =
     (plan : PlannedQuery) (partial : PartialState) (input : List ℕ)
-    → IsSoundUnder plan partial → HasContents partial (contents_over plan.fields plan.query input) → StandsForInput plan partial input
+    → IsSoundUnder plan partial → HasContents partial (contents_over plan.fields plan.query input) → StandsForInput plan.fields plan.query partial input
 
 -- the last of some things, and those before it
 record IsLast {A B : Type 0} (f : A → B) (xs : List A) (front : List B) (b : B) : Type 0 where
@@ -50,7 +47,7 @@ last-of {A} f (x ∷ xs) (c ∷ front) b e =
     record { before = x ∷ more.before; last = more.last; all = ap (λ (ys : List A). x ∷ ys) more.all; front_is = (λ i. here i ∷ more.front_is i); last_is = more.last_is }
 
 stands-alone : ContentsLaw → (plan : PlannedQuery) (partial : PartialState) (input : List ℕ) → IsSoundUnder plan partial → IsOfOnePiece partial → contents_in partial ≡ contents_over plan.fields plan.query input
-    → StandsForInput plan partial (closed input)
+    → StandsForInput plan.fields plan.query partial (closed input)
 stands-alone law plan partial input sound one is =
     law plan partial (closed input) sound
     (subst (λ (c : ContentsForm). HasContents partial c) (is ∙ closed-contents plan.fields plan.query input) (record { refusals = one; groups = refl }))
@@ -63,7 +60,7 @@ pub first-stands : ContentsLaw → (plan : PlannedQuery) (partial : PartialState
 first-stands law plan partial sound one inputs e =
     let l = last-of (contents_over plan.fields plan.query) inputs [] (contents_in partial) e in
     let none : l.before ≡ [] = empty l.before l.front_is in
-    subst (StandsForInput plan partial)
+    subst (StandsForInput plan.fields plan.query partial)
     (ap (λ (xs : List (List ℕ)). concatenated xs ++ closed l.last) (sym none) ∙ concatenated-push l.before l.last ∙ ap concatenated (sym l.all))
     (stands-alone law plan partial l.last sound one l.last_is)
   where
@@ -71,20 +68,15 @@ first-stands law plan partial sound one inputs e =
     empty [] e = refl
     empty (x ∷ xs) e = absurd cc
 
--- of one piece no index stands twice
-pub own-of_one : (partial : PartialState) → IsOfOnePiece partial → HasOwnIndexes partial
-unfolding IsDistinct
-own-of_one partial one = subst (λ (ns : List Noted). IsDistinct nat_eq (map (λ (note : Noted). note.index) ns)) (sym one.notes) (tt, tt)
-
 -- and one more behind others for all
-follow-stands : ContentsLaw → (plan : PlannedQuery) (all : List ContentsForm) (whole rest next : PartialState) → StandsForAll plan all whole → IsSoundUnder plan rest → IsOfOnePiece rest
-    → next ≡ concatenation whole rest → StandsForAll plan (all ++ contents_in rest ∷ []) next
-follow-stands law plan all whole rest next stands sound one is inputs e =
+follow-stands : ContentsLaw → (plan : PlannedQuery) (all : List ContentsForm) (whole rest next : PartialState) → StandsForAll plan all whole → IsSoundUnder plan rest → IsOfOnePiece rest → IsConcatenationOf whole rest next
+    → StandsForAll plan (all ++ contents_in rest ∷ []) next
+follow-stands law plan all whole rest next stands sound one concatenation inputs e =
     let l = last-of (contents_over plan.fields plan.query) inputs all (contents_in rest) e in
     let front = concatenated l.before in
     let joined = front ++ closed l.last in
-    let as_one = behind-stands plan whole rest front (closed l.last) (stands l.before l.front_is) (stands-alone law plan rest l.last sound one l.last_is) (concatenated-whole l.before) in
-    subst (StandsForInput plan next) (concatenated-push l.before l.last ∙ ap concatenated (sym l.all)) (record { pieces = one_piece joined; stands = is ∙ as_one; cut = one-cut joined })
+    let as_one = concatenation plan.fields plan.query front (closed l.last) (stands l.before l.front_is) (stands-alone law plan rest l.last sound one l.last_is) (concatenated-whole l.before) in
+    subst (StandsForInput plan.fields plan.query next) (concatenated-push l.before l.last ∙ ap concatenated (sym l.all)) (record { pieces = whole_piece joined; stands = as_one; cut = one-piece joined })
 
 -- ---- what is read
 
@@ -114,18 +106,16 @@ read-Err view (Err fault) g e = record { fault = fault; is = refl; seen = cc }
 pub record IsJoining (plan : PlannedQuery) (start : ReaderState) (first : PartialState) (reader : ReaderState) (part : ℕ) (whole : PartialState) : Type 0 where
   pub more : List ContentsForm
   pub sound : IsSoundUnder plan whole
-  pub own : HasOwnIndexes whole
   pub stands : (all : List ContentsForm) → StandsForAll plan all first → StandsForAll plan (all ++ more) whole
   pub read : IsKnown start
       → IsKnown reader
       × ((answer : Result (List ContentsForm) PartedFault) → ArePartsFrom plan.fields plan.query part whole.lines (stream_of reader) answer → ArePartsFrom plan.fields plan.query 2 first.lines (stream_of start) (behind_all more answer))
 
 -- before the second one
-pub begins : (plan : PlannedQuery) (start : ReaderState) (first : PartialState) → IsSoundUnder plan first → IsOfOnePiece first → IsJoining plan start first start 2 first
-begins plan start first sound one = record {
+pub begins : (plan : PlannedQuery) (start : ReaderState) (first : PartialState) → IsSoundUnder plan first → IsJoining plan start first start 2 first
+begins plan start first sound = record {
   more = [];
   sound = sound;
-  own = own-of_one first one;
   stands = λ all stands. subst (λ (cs : List ContentsForm). StandsForAll plan cs first) (sym (append-nil all)) stands;
   read = λ known. (known, λ answer read. subst (ArePartsFrom plan.fields plan.query 2 first.lines (stream_of start)) (same answer) read);
 }
@@ -157,16 +147,14 @@ module _ (plan : PlannedQuery) (start : ReaderState) (first : PartialState) (rea
   -- where a part was read, there is one more
   pub one-more : ContentsLaw → (s : Stream) (after : ReaderState) (rest next : PartialState) → (IsKnown reader → stream_of reader ≡ s) → (IsKnown reader → s.left ≢ [])
       → (IsKnown reader → IsKnown after) → (IsKnown reader → with_fault (in_part part) (part_at plan.fields plan.query whole.lines s) ≡ Ok (contents_in rest, stream_of after))
-      → IsSoundUnder plan rest → IsOfOnePiece rest → (HasOwnIndexes whole → HasOwnIndexes rest → next ≡ concatenation whole rest) → HasOwnIndexes next
-      → next.lines ≡ whole.lines + rest.lines → IsSoundUnder plan next
+      → IsSoundUnder plan rest → IsOfOnePiece rest → IsConcatenationOf whole rest next → next.lines ≡ whole.lines + rest.lines → IsSoundUnder plan next
       → IsJoining plan start first after (part + 1) next
-  one-more law s after rest next same some still read sound one is own lines sound_too = record {
+  one-more law s after rest next same some still read sound one concatenation lines sound_too = record {
     more = j.more ++ contents_in rest ∷ [];
     sound = sound_too;
-    own = own;
     stands = λ all given.
         subst (λ (cs : List ContentsForm). StandsForAll plan cs next) (append_assoc all j.more (contents_in rest ∷ []))
-        (follow-stands law plan (all ++ j.more) whole rest next (j.stands all given) sound one (is j.own (own-of_one rest one)));
+        (follow-stands law plan (all ++ j.more) whole rest next (j.stands all given) sound one concatenation);
     read = λ known.
         let here = (j.read known).0 in (
           still here,

@@ -21,7 +21,7 @@ use Rattle.parts.specs.ReadingParts.{parts_at, parts_from}
 abbrev pub StandsForAll : PlannedQuery → List ContentsForm → PartialState → Type 0
 StandsForAll plan all partial =
     (inputs : List (List ℕ)) → all ≡ map (contents_over plan.fields plan.query) inputs
-    → StandsForInput plan partial (concatenated inputs)
+    → StandsForInput plan.fields plan.query partial (concatenated inputs)
 
 -- A result is that of all parts that lines are read as.
 pub record IsJoin (plan : PlannedQuery) (ls : List (List ℕ)) (partial : PartialState) : Type 0 where

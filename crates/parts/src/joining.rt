@@ -24,7 +24,7 @@ use query_plan::Plan;
 use semantics::{PartsFault, PartsFaultKind};
 use std::alloc::Global;
 use std::io::Read;
-use tables::{Executor, Partial, contents_law, sound_law};
+use tables::{Executor, Partial, contents_law};
 
 /// A refusal of the part of this number.
 fn refusal_in(part: u64, refusal: PartRefusal) -> PartsRefusal
@@ -86,13 +86,11 @@ fn join_rest<R: Read + Drop, E: Executor>(
     requires columns { string_bytes header.now.columns ≡ columns_text plan.now.fields }
     requires query { string_bytes header.now.query ≡ canonical_text plan.now.query }
     requires sound { IsSoundUnder plan.now first }
-    requires one { IsOfOnePiece first }
     ensures sound { IfOk result (IsSoundUnder plan.now) }
     ensures joins { IsKnown reader.old
         → JoinsBehind plan.now first 2 (stream_of reader.old) result }
 {
     contents_law();
-    sound_law();
     let mut whole = first;
     let mut part = 2;
     while reader.has_line()? {
@@ -131,7 +129,7 @@ pub fn read_parts<R: Read + Drop, E: Executor>(
         AnswersParts plan.now (lines (clip_lines bytes)) result) }
     ensures stands { IfSome (R.remaining reader) (λ bytes. (inputs : List (List ℕ))
         → bytes ≡ flat_map (part_text plan.now.fields plan.now.query) inputs
-        → IfOk result (λ partial. StandsForInput plan.now partial
+        → IfOk result (λ partial. StandsForInput plan.now.fields plan.now.query partial
         (concatenated inputs))) }
     ensures takes { IfSome (R.remaining reader) (λ bytes. (inputs : List (List ℕ))
         → bytes ≡ flat_map (part_text plan.now.fields plan.now.query) inputs

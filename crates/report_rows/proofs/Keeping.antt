@@ -22,7 +22,7 @@ use Rattle.tables_groups.specs.Found.{row_of}
 use Rattle.semantics.specs.Rows.{is_having_true, rows_having_true}
 use Rattle.semantics.specs.Order.{rows_in_order, before}
 use Rattle.report_rows.proofs.Filtering.{fit-having_true}
-use Rattle.tables_groups.proofs.Sorting.{all-in_order}
+use Rattle.report_rows.proofs.Sorting.{all-in_order}
 
 -- ---- typing
 

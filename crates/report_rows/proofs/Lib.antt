@@ -1,3 +1,4 @@
+pub mod Sorting
 pub mod Sameness
 pub mod Places
 pub mod Totals

@@ -1,4 +1,5 @@
 pub mod Shown
+pub mod Order
 pub mod Laws
 pub mod Planned
 pub mod Having

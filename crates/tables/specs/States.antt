@@ -6,7 +6,7 @@ use Rattle.tables_groups.specs.Inside.Table.{Contents}
 use Rattle.semantics.specs.Found.{Found}
 use Rattle.tables.specs.Notes.{Noted}
 
--- A partial result: its grouping sets, its set functions, the canonical texts of their filters, the groups of its table, how many lines and refused lines it counts, and the notes of its pieces, in their order.
+-- A partial result: its grouping sets, its set functions, the canonical texts of their filters, the groups of its table, how many lines and refused lines it counts, and of each piece its note.
 pub record PartialState : Type 0 where
   pub sets : List (List ℕ)
   pub functions : List FilteredFunction

@@ -39,7 +39,7 @@ impl Shape {
         ensures functions { IfOk result (λ shape.
             shape.functions.items ≡ indexed_functions plan.now.fields plan.now.query) }
         ensures filters { IfOk result (λ shape.
-            map string_bytes shape.filters.items ≡ filter_texts plan.now) }
+            map string_bytes shape.filters.items ≡ filter_texts plan.now.fields plan.now.query) }
     {
         let sets = copy_sets(alloc, plan.sets())?;
         let functions = copy_functions(alloc, plan.set_functions())?;

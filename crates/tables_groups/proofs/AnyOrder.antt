@@ -16,10 +16,10 @@ use Rattle.tables_groups.proofs.Firsts.{less-flip, greater-flip}
 use Rattle.tables_groups.proofs.Sets.{union-flip}
 use Rattle.tables_groups.proofs.Meaning.{same_state, has_key, group_at, group_at-append}
 
-pub plus_flip : (m n : ℕ) → m + n ≡ n + m
+plus_flip : (m n : ℕ) → m + n ≡ n + m
 plus_flip m n = omega arith
 
-pub sum_flip : (s t : ℤ) → s +ℤ t ≡ t +ℤ s
+sum_flip : (s t : ℤ) → s +ℤ t ≡ t +ℤ s
 sum_flip s t = omega (arith, ints)
 
 state_over-flip : (f : ColumnFunction) (l m : List Row) → joint_state (state_over f l) (state_over f m) ≡ joint_state (state_over f m) (state_over f l)

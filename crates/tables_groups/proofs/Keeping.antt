@@ -84,7 +84,7 @@ joined-within a b (averaged s m) (averaged t n) v w = (omega (arith, v, w), (ome
 joined-within a b (collected s) (collected t) v w = tt
 joined-within a b (lowest k) (lowest l) v w = tt
 joined-within a b (highest k) (highest l) v w = tt
-joined-within a b k l v w = tt
+joined-within a b k l v w = more-within a b k v
 
 pub more-sound : (a b : ℕ) (ks : List AccumulatorState) → IsSound a ks → IsSound (a + b) ks
 more-sound a b [] s = tt

@@ -21,7 +21,7 @@ use Rattle.tables_groups.specs.declared.accumulator.Accumulator.{Accumulator}
 use Rattle.tables_groups.specs.Functions.{aggregate_of, aggregates_of}
 use Rattle.tables_groups.specs.Inside.Accumulator.{AccumulatorState, nothing, counted, summed, averaged, collected, lowest, highest, IsSumOf, IsWithin, accumulator_state, state_by, state_in}
 use Rattle.tables_groups.specs.Inside.Entries.{AreStatesFor, HasFormBy, IsAscending, IsStateFor, ascending_values, kept_state, kept_states, plain_state}
-use Rattle.tables_groups.specs.Inside.Typed.{AreStatesOf}
+use Rattle.tables_groups.specs.Inside.Typed.{AreStatesOf, IsStateOf}
 use Rattle.tables_groups.specs.Inside.Typed as typed
 use Rattle.tables_groups.specs.Inside.Values.{Values, set_of}
 use Rattle.tables_groups.proofs.Ascending.{any-in_order, ascending-sorted, in_order-sorted, one-sorted}

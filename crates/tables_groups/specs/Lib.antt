@@ -2,7 +2,6 @@ pub mod Rows
 pub mod Functions
 pub mod Cells
 pub mod Bags
-pub mod Ascending
 pub mod GroupSummaries
 pub mod Found
 pub mod Fitting

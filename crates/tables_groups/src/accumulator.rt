@@ -244,15 +244,14 @@ impl Accumulator {
         Ok(())
     }
 
-    /// Takes what is kept of other records for the same function; for another one nothing is kept. After an error what is kept
-    /// is of no use.
+    /// Takes what is kept of other records for the same function. After an error what is kept is of no use.
     pub(crate) fn absorb(&mut self, memory: Memory, other: Accumulator) -> Result<(), AllocError>
         requires { HasRoom (joint_state (state_in self.old) (state_in other)) }
         ensures joined { OnOk result (state_in self.new
             ≡ joint_state (state_in self.old) (state_in other)) }
         ensures unbounded { OnErr result (IsUnbounded (state_in self.new)) }
     {
-        match (&mut *self, other) {
+        match (self, other) {
             (Accumulator::Count(count), Accumulator::Count(more)) => *count += more,
             (Accumulator::Distinct(values), Accumulator::Distinct(more)) => {
                 values.absorb(memory, more)?;
@@ -278,7 +277,7 @@ impl Accumulator {
                 | Accumulator::Max(_)
                 | Accumulator::Average(_),
                 _,
-            ) => *self = Accumulator::Rows,
+            ) => {}
         }
         Ok(())
     }
@@ -294,7 +293,7 @@ impl Accumulator {
             ≡ joint_state (state_in self.old) (state_in other.now)) }
         ensures unbounded { OnErr result (IsUnbounded (state_in self.new)) }
     {
-        match (&mut *self, other) {
+        match (self, other) {
             (Accumulator::Count(count), Accumulator::Count(more)) => *count += *more,
             (Accumulator::Distinct(values), Accumulator::Distinct(more)) => {
                 values.absorb_copies(memory, more)?;
@@ -320,7 +319,7 @@ impl Accumulator {
                 | Accumulator::Max(_)
                 | Accumulator::Average(_),
                 _,
-            ) => *self = Accumulator::Rows,
+            ) => {}
         }
         Ok(())
     }

@@ -11,7 +11,7 @@ ghost use Rattle.semantics.specs.Columns.{Field};
 ghost use Rattle.semantics.specs.GroupStates.{entries_over};
 ghost use Rattle.tables_groups.specs.Functions.{aggregates_of};
 ghost use Rattle.tables_groups.specs.Inside.Entries.{table_entries};
-ghost use Rattle.tables_groups.specs.Inside.Table.{CanJoin, Contents, HasGroupsOfFiner, IsCounted, IsTableOf, IsTableUnder, IsUnionOf, both_tables};
+ghost use Rattle.tables_groups.specs.Inside.Table.{Contents, HasGroupsOfBoth, HasGroupsOfFiner, IsCounted, IsTableOf, IsTableUnder};
 ghost use Rattle.tables_groups.specs.Inside.Typed.{AllFit, AreColumns, HaveColumns, IsTypedTable};
 
 /// A table of records is that of the same records in any other order.
@@ -53,14 +53,6 @@ pub fn roll_law()
         → AreAmong set finer → HasGroupsOfFiner finer functions table set rolled }
 {}
 
-/// Tables of records under one set and for the same functions, put together, are the table of the records of both. Of two
-/// tables that can be put together it does not matter which one comes first.
-pub fn both_law()
-    ensures union { (first second : Contents) → IsUnionOf first second (both_tables first second) }
-    ensures either_way { (first second : Contents) → CanJoin first second
-        → both_tables first second ≡ both_tables second first }
-{}
-
 /// The groups of a table have no more records together than the table is of. Those of the groups of two tables, put
 /// together, have no more than those of both.
 pub fn counted_law()
@@ -68,9 +60,9 @@ pub fn counted_law()
         (filters : List (Row → Bool)) (table : Contents) (rows : List Row)
         → IsTableUnder set functions filters table rows → length rows ≤ most
         → IsCounted most functions table }
-    ensures joined { (m n : ℕ) (functions : List FilteredFunction) (a b : Contents)
-        → IsCounted m functions a → IsCounted n functions b
-        → IsCounted (m + n) functions (both_tables a b) }
+    ensures joined { (m n : ℕ) (functions : List FilteredFunction) (a b c : Contents)
+        → IsCounted m functions a → IsCounted n functions b → HasGroupsOfBoth a b c
+        → IsCounted (m + n) functions c }
 {}
 
 /// The groups of a table of records that fit the columns are of the types of these and of the set functions. So are
@@ -82,9 +74,9 @@ pub fn typed_law()
         → AreColumns fields set → HaveColumns fields functions
         → IsTypedTable fields set functions table }
     ensures joined { (fields : List Field) (set : List ℕ) (functions : List FilteredFunction)
-        (a b : Contents) → IsTypedTable fields set functions a
-        → IsTypedTable fields set functions b
-        → IsTypedTable fields set functions (both_tables a b) }
+        (a b c : Contents) → IsTypedTable fields set functions a
+        → IsTypedTable fields set functions b → HasGroupsOfBoth a b c
+        → IsTypedTable fields set functions c }
 {}
 
 /// The list of the groups of a table of records is that of the groups of these records, by ascending keys. And a table of

@@ -86,7 +86,7 @@ impl Table {
     ghost use Rattle.tables_groups.specs.Inside.Group.{no_group};
     ghost use Rattle.tables_groups.specs.Inside.Keys.{key_in};
     ghost use Rattle.tables_groups.specs.Inside.Shards.{contents_in};
-    ghost use Rattle.tables_groups.specs.Inside.Table.{AreGroupsOfTable, CanJoin, HasEmptyKey, HasFewRecords, HasGroupsOfBoth, HasOneMore, IsFitting, IsOfNone, IsPut, IsRollOf, IsTaken, IsWithPart, KeepsCount, TakesOne, both_tables};
+    ghost use Rattle.tables_groups.specs.Inside.Table.{AreGroupsOfTable, CanJoin, HasEmptyKey, HasFewRecords, HasGroupsOfBoth, HasOneMore, IsFitting, IsOfNone, IsPut, IsRollOf, IsTaken, IsUnionOf, IsWithPart, KeepsCount, TakesOne};
     ghost use Rattle.group_states.specs.States.{entries_of, entry_of};
     ghost use Rattle.tables_groups.specs.Inside.Entries.{CountsEntry, IsBehind, IsEntryFor, TypesEntry, table_entries};
     ghost use Rattle.tables_groups.specs.Inside.Typed.{HaveTypesOfTable, KeepsTypes};
@@ -225,7 +225,8 @@ impl Table {
     /// `AllocError` where there is no memory for it; the table is of no use then.
     pub fn absorb(&mut self, other: Table) -> Result<(), AllocError>
         requires { CanJoin self.old other }
-        ensures { OnOk result (self.new ≡ both_tables self.old other) }
+        ensures groups { OnOk result (HasGroupsOfBoth self.old other self.new) }
+        ensures joined { OnOk result (IsUnionOf self.old other self.new) }
     {
         let fresh = Table::without_groups(self.memory, 1)?;
         let table = mem::replace(self, fresh);
@@ -253,7 +254,8 @@ impl Table {
     ) -> Result<(), AllocError>
         requires join { CanJoin self.old other }
         requires hands { 0 < hands }
-        ensures { OnOk result (self.new ≡ both_tables self.old other) }
+        ensures groups { OnOk result (HasGroupsOfBoth self.old other self.new) }
+        ensures joined { OnOk result (IsUnionOf self.old other self.new) }
     {
         if hands == 1 || other.len() < PARALLEL_MIN_GROUPS {
             return self.absorb(other);

@@ -92,7 +92,7 @@ is_marked marks (Some index) = slice_index_or marks index false
 abbrev pub with_member : Bool → ColumnFunction → AccumulatorState → Row → AccumulatorState
 with_member kept f k row = if kept then with_record f k row else k
 
--- what is kept of two parts of a group for one function; of different functions nothing
+-- what is kept of two parts of a group for one function; of different functions the first stays as it is
 abbrev pub joint_state : AccumulatorState → AccumulatorState → AccumulatorState
 joint_state (counted m) (counted n) = counted (m + n)
 joint_state (summed s m) (summed t n) = summed (s +ℤ t) (m + n)
@@ -100,7 +100,7 @@ joint_state (averaged s m) (averaged t n) = averaged (s +ℤ t) (m + n)
 joint_state (collected s) (collected t) = collected (set.union s t)
 joint_state (lowest k) (lowest l) = lowest (first_by value_order k l)
 joint_state (highest k) (highest l) = highest (first_by falling_order k l)
-joint_state k l = nothing
+joint_state k l = k
 
 -- the value of the function over a group of so many records
 abbrev pub summary : ℕ → AccumulatorState → Summary

@@ -5,7 +5,6 @@ use Rattle.std.specs.Prelude.{⊤, ◌≡◌, ◌+◌, ◌-◌, ◌<◌, ◌≤�
 use Rattle.std.specs.Coded.{Coded}
 use Rattle.std.specs.FinMap as fin
 use Rattle.std.specs.List.{IsDistinct, list_any}
-use Rattle.std.specs.Option.{option_map_or}
 use Rattle.values.specs.Datum.{data_of}
 use Rattle.query_resolve.specs.declared.function.FilteredFunction.{FilteredFunction}
 use Rattle.tables_groups.specs.Inside.Coding.{coded_key}
@@ -38,14 +37,6 @@ contents_of entries = fin.from_entries (entries_by_key entries)
 -- a table is that of a list of records under a grouping set: at each of their keys it has what is kept of the members, and at no other key anything
 abbrev pub IsTableOf : List ℕ → List AggregateFunction → Contents → List Row → Type 0
 IsTableOf set functions table rows = (key : Key) → fin.get table key ≡ (if list_any (same_key key) (keys set rows) then Some (group_state functions (members set key rows)) else None)
-
--- what a table has of a key: what is kept of the members of its group
-abbrev pub group_over : List ℕ → List AggregateFunction → List Row → Key → Key × GroupState
-group_over set functions rows key = (key, group_state functions (members set key rows))
-
--- the table of a list of records under a grouping set
-abbrev pub table_of : List ℕ → List AggregateFunction → List Row → Contents
-table_of set functions rows = fin.from_entries (map (group_over set functions rows) (keys set rows))
 
 -- a table is that of a list of records under a grouping set, for set functions whose FILTERs are given by their indexes, where the filters keep this
 abbrev pub IsTableUnder : List ℕ → List FilteredFunction → List (Row → Bool) → Contents → List Row → Type 0
@@ -152,14 +143,6 @@ IsEnlarged functions old new key part k = fin.get new k ≡ cond (same_key k key
 -- at the key k the table has what both have
 abbrev pub IsJoined : Contents → Contents → Contents → Key → Type 0
 IsJoined old other new k = fin.get new k ≡ joint_option (fin.get old k) (fin.get other k)
-
--- a group of the second table, put to that of its key in the first one, where there is one
-abbrev pub joint_entry : Contents → Key × GroupState → Key × GroupState
-joint_entry first entry = (entry.0, option_map_or (λ kept. joint_group kept entry.1) (fin.get first entry.0) entry.1)
-
--- the groups of two tables: of a key that both have, what both keep, put together
-abbrev pub both_tables : Contents → Contents → Contents
-both_tables first second = fin.from_entries (map (joint_entry first) (fin.entries second) ++ fin.entries first)
 
 -- at each key the table has what both have
 abbrev pub HasGroupsOfBoth : Contents → Contents → Contents → Type 0

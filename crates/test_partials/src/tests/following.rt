@@ -6,7 +6,6 @@ ghost use Rattle.tables.specs.Partials.{IsPartialOf, StandsForInput};
 
 use super::partials::{
     BY_D, BY_D_AND_R, UNGROUPED, assert_groups, assert_two_found, plan_of, plan_or_refused,
-    result_of_piece, result_with_piece,
 };
 use super::reference::{Findings, findings_of};
 use lines::LineFault;
@@ -100,7 +99,7 @@ pub fn has_few_lines(bytes: &[u8]) -> bool
 /// The result over an input: over no pieces where it is empty, and else over one.
 pub fn over(alloc: Global, plan: &Plan, input: &[u8]) -> Result<Partial, AllocError>
     ensures { IfOk result (λ partial.
-        StandsForInput plan.now partial input.now) }
+        StandsForInput plan.now.fields plan.now.query partial input.now) }
 {
     if input.is_empty() {
         return Partial::empty(alloc, plan);
@@ -117,7 +116,7 @@ fn follow(
     rest: &[u8],
 ) -> Result<Partial, AllocError>
     requires { AreWholeLines front.now }
-    ensures { IfOk result (IsPartialOf plan.now) }
+    ensures { IfOk result (IsPartialOf plan.now.fields plan.now.query) }
 {
     let behind = over(alloc, plan, rest)?;
     match over(alloc, plan, front) {
@@ -144,7 +143,7 @@ pub fn follow_by_hands<H: Abort + Threads + Sync>(
 ) -> Result<Partial, AllocError>
     requires front { AreWholeLines front.now }
     requires hands { 0 < count }
-    ensures { IfOk result (IsPartialOf plan.now) }
+    ensures { IfOk result (IsPartialOf plan.now.fields plan.now.query) }
 {
     let behind = over(alloc, plan, rest)?;
     match over(alloc, plan, front) {
@@ -176,7 +175,7 @@ fn folded_behind(
     rest: &[u8],
 ) -> Result<Partial, AllocError>
     requires { AreWholeLines front.now }
-    ensures { IfOk result (IsPartialOf plan.now) }
+    ensures { IfOk result (IsPartialOf plan.now.fields plan.now.query) }
 {
     let whole = over(alloc, plan, front)?;
     assert!(rt; whole.lines() < 1 << 62);
@@ -192,12 +191,12 @@ fn folded_onto_one_piece(
     front: &[u8],
     rest: &[u8],
 ) -> Result<Partial, AllocError>
-    ensures { IfOk result (IsPartialOf plan.now) }
+    ensures { IfOk result (IsPartialOf plan.now.fields plan.now.query) }
 {
     let whole = over(alloc, plan, front)?.in_one_piece()?;
     assert!(rt; whole.lines() < 1 << 62);
     assert!(rt; has_few_lines(rest));
-    result_with_piece(plan, whole, 1, rest)
+    whole.fold_onto(plan, 1, rest)
 }
 
 /// Asserts that a result is that of an input in two parts.
@@ -209,7 +208,7 @@ fn assert_found(
     parted: &Parted,
     wanted: &Findings,
 )
-    requires { IsPartialOf plan.now partial }
+    requires { IsPartialOf plan.now.fields plan.now.query partial }
 {
     assert_eq!(rt; partial.lines(), parted.lines);
     assert_eq!(rt; partial.refused(), parted.refused.len() as u64);
@@ -225,7 +224,7 @@ fn assert_followed<H: Abort + Threads + Sync>(rt: &H, alloc: Global, plan: &Plan
     let mut input = parted.front.to_vec(alloc).expect(rt, "memory");
     input.extend_from_slice(parted.rest).expect(rt, "memory");
     let wanted = findings_of(rt, alloc, plan, input.as_slice());
-    let whole = result_of_piece(alloc, plan, 0, input.as_slice()).expect(rt, "memory");
+    let whole = Partial::fold_piece(alloc, plan, 0, input.as_slice()).expect(rt, "memory");
     assert_found(rt, alloc, plan, whole, parted, &wanted);
     assert!(rt; are_whole_lines(parted.front));
     let both = follow(rt, alloc, plan, parted.front, parted.rest).expect(rt, "memory");
@@ -254,7 +253,7 @@ fn followed_like_the_whole(rt: HostRuntime) {
 
 /// Asserts that a result is that of the input with groups in both parts, or memory was refused.
 fn assert_both_or_refused(rt: &impl Abort, plan: &Plan, both: Result<Partial, AllocError>)
-    requires { IfOk both (IsPartialOf plan.now) }
+    requires { IfOk both (IsPartialOf plan.now.fields plan.now.query) }
 {
     if let Ok(both) = both {
         assert!(rt; both.lines() == 5 && both.refused() == 2);

@@ -13,7 +13,6 @@ use Rattle.tables.proofs.Growing.{lines-more, notes-more, records-more, refused-
 use Rattle.tables.proofs.Merging.{one-note}
 use Rattle.tables.proofs.Reading.{length-valid_of, length-kept, length-lines, length-refused_of}
 use Rattle.tables.proofs.Sound.{table-counted}
-use Rattle.tables.proofs.Standing.{stands-from}
 use Rattle.tables.proofs.partial.Partial.fold_piece_by.Goals as goal
 
 pub read_onto-requires : goal.read_onto-requires
@@ -25,22 +24,23 @@ read_onto-requires g c = ∣ record {
 
 pub invariant_of-result : goal.invariant_of-result
 invariant_of-result g c =
-    let plan = c.args.plan.now in
+    let fields = c.args.plan.now.fields in
+    let q = c.args.plan.now.query in
     let shape = c.in_ok-shape.shape in
     let ls = lines c.args.piece.now in
     let read = c.in_ok-table.ensures.read [] c.in_ok-empty.ensures in
     let folding = c.in_ok-table.field-0 in
-    let valid = length-valid_of plan.fields ls in
-    let few = length-kept plan (valid_records_of plan.fields ls) in
+    let valid = length-valid_of fields ls in
+    let few = length-kept fields q (valid_records_of fields ls) in
     let count = read.lines in
     let short = length-lines c.args.piece.now in
     let notes = one-note c.in_ok-notes.notes.items _ c.in_ok-notes.ensures c.in_ok-table.ensures.numbered in (
       omega (arith, count, short, c.requires),
       (
-        (let r = c.in_ok-table.ensures.refused in let m = length-refused_of plan.fields ls in omega (arith, r, m, count)),
+        (let r = c.in_ok-table.ensures.refused in let m = length-refused_of fields ls in omega (arith, r, m, count)),
         (
           subst (λ (fs : List FilteredFunction). IsCounted folding.lines fs folding.table) (sym c.in_ok-shape.ensures.functions)
-              (table-counted plan folding.table (kept_records plan.fields plan.query (valid_records_of plan.fields ls)) folding.lines read.table (omega (arith, valid, few, count))),
+              (table-counted fields q folding.table (kept_records fields q (valid_records_of fields ls)) folding.lines read.table (omega (arith, valid, few, count))),
           (
             notes.0,
             (notes.1, tt),
@@ -51,18 +51,21 @@ invariant_of-result g c =
 
 pub returns : goal.returns
 returns g c =
-    let plan = c.args.plan.now in
+    let fields = c.args.plan.now.fields in
+    let q = c.args.plan.now.query in
     let bytes = c.args.piece.now in
     let folding = c.in_ok-table.field-0 in
     let read = c.in_ok-table.ensures.read [] c.in_ok-empty.ensures in
-    stands-from plan _ (map note_in c.in_ok-notes.notes.items) (record { index = c.args.index; bytes = bytes } ∷ []) refl (record {
-      sets = c.in_ok-shape.ensures.sets;
-      functions = c.in_ok-shape.ensures.functions;
-      filters = c.in_ok-shape.ensures.filters;
-      table = subst (λ (rows : List Row). IsTableOf (grouping_places plan.fields plan.query) (aggregate_functions plan.fields plan.query) folding.table (kept_records plan.fields plan.query rows)) (sym (records-more plan.fields [] c.args.index bytes)) read.table;
-      lines = (let y = read.lines in let z = lines-more [] c.args.index bytes in omega (arith, y, z));
-      refused = (let y = read.count in let z = refused-more plan.fields [] c.args.index bytes in omega (arith, y, z));
-      notes = subst (λ (ns : List Noted). SameBag (map (note_of plan.fields) (record { index = c.args.index; bytes = bytes } ∷ [])) ns)
-          (sym (ap (map note_in) c.in_ok-notes.ensures))
-          (notes-more plan.fields [] [] c.args.index bytes folding.lines folding.refusals read.lines read.refused (λ f. refl));
-    })
+    record {
+      stands = record {
+        sets = c.in_ok-shape.ensures.sets;
+        functions = c.in_ok-shape.ensures.functions;
+        filters = c.in_ok-shape.ensures.filters;
+        table = subst (λ (rows : List Row). IsTableOf (grouping_places fields q) (aggregate_functions fields q) folding.table (kept_records fields q rows)) (sym (records-more fields [] c.args.index bytes)) read.table;
+        lines = (let y = read.lines in let z = lines-more [] c.args.index bytes in omega (arith, y, z));
+        refused = (let y = read.count in let z = refused-more fields [] c.args.index bytes in omega (arith, y, z));
+        notes = subst (λ (ns : List Noted). SameBag (map (note_of fields) (record { index = c.args.index; bytes = bytes } ∷ [])) ns)
+            (sym (ap (map note_in) c.in_ok-notes.ensures))
+            (notes-more fields [] [] c.args.index bytes folding.lines folding.refusals read.lines read.refused (λ f. refl));
+      };
+    }

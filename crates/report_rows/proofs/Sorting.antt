@@ -1,14 +1,15 @@
 -- Lists in order, under any total order.
-use Rattle.std.proofs.Common.{◌≡◌, ◌+◌, ◌<◌, ℕ, suc, Bool, true, false, cond, List, [], ◌∷◌, map, get_or, refl, sym, ap, subst, ◌∙◌, arith, IsSortedBy, true≢false}
+use Rattle.std.proofs.Common.{◌≡◌, ◌+◌, ◌<◌, ℕ, suc, Bool, true, false, cond, List, [], ◌∷◌, map, get_or, refl, sym, ap, subst, ◌∙◌, arith, IsPermutation, IsSortedBy, true≢false}
 use Rattle.std.specs.Prelude.{⊤}
 use Rattle.std.specs.declared.cmp.Ordering.{Ordering}
 use Rattle.std.specs.declared.cmp.Ordering.TheVariants.{Less, Equal, Greater}
 use Rattle.std.specs.Ordering.{is_eq, is_gt, is_lt, ordering_reverse}
-use Rattle.std.specs.Cmp.{IsTotalOrder, Equal-is, upto, eq_by_cmp_equiv, tied_itself}
-use Rattle.std.specs.FinMap.{IsAntisymmetric}
+use Rattle.std.specs.Cmp.{IsTotalOrder, Equal-is, upto, eq_by_cmp_equiv}
 use Rattle.std.specs.List.{AllByRecursion}
+use Rattle.std.proofs.lemmas.List.Recursion.{is_sum_by}
+use Rattle.std.proofs.lemmas.List.Sorted.{sum_by-IsPermutation}
 use Rattle.tables_groups.specs.Bags.{SameBag, weigh}
-use Rattle.tables_groups.specs.Ascending.{NoneBefore, Ascends}
+use Rattle.report_rows.specs.Order.{NoneBefore, Ascends}
 use Rattle.semantics.specs.Order.{insertion, in_order}
 
 -- ---- weights
@@ -25,6 +26,11 @@ weigh-inserted order f x (y ∷ ys) =
 pub weigh-in_order : {X : Type 0} (order : X → X → Ordering) (f : X → ℕ) (xs : List X) → weigh f (in_order order xs) ≡ weigh f xs
 weigh-in_order order f [] = refl
 weigh-in_order order f (x ∷ xs) = weigh-inserted order f x (in_order order xs) ∙ ap (λ (n : ℕ). f x + n) (weigh-in_order order f xs)
+
+-- so has a permutation
+pub bag-permutation : {X : Type 0} (xs ys : List X) → IsPermutation xs ys → SameBag xs ys
+bag-permutation xs ys moved f =
+    is_sum_by (weigh f) f refl (λ _ _. refl) xs ∙ sym (sum_by-IsPermutation f xs ys moved) ∙ sym (is_sum_by (weigh f) f refl (λ _ _. refl) ys)
 
 -- ---- what holds of each thing
 
@@ -136,10 +142,16 @@ stands {X} same t P x (y ∷ ys) all h =
     ] refl h
 
 module _ {X : Type 0} {order : X → X → Ordering} (o : IsTotalOrder order) (same : X → X → Bool) (t : Tells same) where
-  -- of two ascending lists that have the same things each as often the first things are one, if they are where they tie
-  first-by : (x y : X) (xs ys : List X) → (order x y ≡ Equal → 0 < weigh (λ z. cond (same y z) 1 0) xs → x ≡ y)
-      → Ascends order (x ∷ xs) → Ascends order (y ∷ ys) → SameBag (x ∷ xs) (y ∷ ys) → x ≡ y
-  first-by x y xs ys tied a b h =
+  both-first : (x y : X) (xs ys : List X) → AllByRecursion (λ z. is_eq (order x z) ≡ false) xs → NoneBefore order x xs → NoneBefore order y ys
+      → 0 < weigh (λ z. cond (same x z) 1 0) ys → 0 < weigh (λ z. cond (same y z) 1 0) xs → x ≡ y
+  both-first x y xs ys apart a b h k =
+      let up : is_gt (order y x) ≡ false = stands same t (λ z. is_gt (order y z) ≡ false) x ys b h in
+      let down : is_gt (order x y) ≡ false = stands same t (λ z. is_gt (order x z) ≡ false) y xs a k in
+      let untied : is_eq (order x y) ≡ false = stands same t (λ z. is_eq (order x z) ≡ false) y xs apart k in
+      absurd (true≢false (sym ((Equal-is (order x y)).1 (level (order x y) (order y x) (o.antisymm x y) down up)) ∙ untied))
+
+  first-same : (x y : X) (xs ys : List X) → Apart order (x ∷ xs) → Ascends order (x ∷ xs) → Ascends order (y ∷ ys) → SameBag (x ∷ xs) (y ∷ ys) → x ≡ y
+  first-same x y xs ys apart a b h =
       elim (same x y) as (λ (e : Bool). same x y ≡ e → x ≡ y) [
         | true ↦ λ e. t.equal x y e
         | false ↦ λ e.
@@ -152,17 +164,9 @@ module _ {X : Type 0} {order : X → X → Ordering} (o : IsTotalOrder order) (s
                   let e2 = ap weight e in
                   let e3 = ap weight f in
                   let e4 = ap weight (t.itself y) in
-                  let in_rest : 0 < weigh (λ (z : X). cond (same y z) 1 0) xs = omega (arith, down, e3, e4) in
-                  let above : is_gt (order y x) ≡ false = stands same t (λ z. is_gt (order y z) ≡ false) x ys b.0 (omega (arith, up, e1, e2)) in
-                  let below : is_gt (order x y) ≡ false = stands same t (λ z. is_gt (order x z) ≡ false) y xs a.0 in_rest in
-                  tied (level (order x y) (order y x) (o.antisymm x y) below above) in_rest
+                  both-first x y xs ys apart.0 a.0 b.0 (omega (arith, up, e1, e2)) (omega (arith, down, e3, e4))
             ] refl
       ] refl
-
-  first-same : (x y : X) (xs ys : List X) → Apart order (x ∷ xs) → Ascends order (x ∷ xs) → Ascends order (y ∷ ys) → SameBag (x ∷ xs) (y ∷ ys) → x ≡ y
-  first-same x y xs ys apart a b h =
-      first-by x y xs ys
-      (λ e k. absurd (true≢false (sym ((Equal-is (order x y)).1 e) ∙ stands same t (λ z. is_eq (order x z) ≡ false) y xs apart.0 k))) a b h
 
   -- of two ascending lists that have the same things each as often, where no two tie, each is the other
   pub one-list : (xs ys : List X) → Apart order xs → Ascends order xs → Ascends order ys → SameBag xs ys → xs ≡ ys
@@ -172,30 +176,3 @@ module _ {X : Type 0} {order : X → X → Ordering} (o : IsTotalOrder order) (s
   one-list (x ∷ xs) (y ∷ ys) apart a b h =
       let first = first-same x y xs ys apart a b h in
       ap (λ (z : X). z ∷ xs) first ∙ ap (λ (zs : List X). y ∷ zs) (one-list xs ys apart.1 a.1 b.1 (λ f. let e = h f in let g = ap f first in omega (arith, e, g)))
-
--- ---- where only equal things tie
-
-module _ {X : Type 0} {order : X → X → Ordering} (o : IsTotalOrder order) (tied : IsAntisymmetric order) where
-  abbrev ties : X → X → Bool
-  ties x y = is_eq (order x y)
-
-  ties-Tells : Tells ties
-  ties-Tells = record {
-    equal = λ x y h. tied x y ((Equal-is (order x y)).0 h);
-    itself = λ x. (Equal-is (order x x)).1 (tied_itself o x);
-  }
-
-  -- of two ascending lists that have the same things each as often each is the other
-  pub one-ascending : (xs ys : List X) → Ascends order xs → Ascends order ys → SameBag xs ys → xs ≡ ys
-  one-ascending [] [] a b h = refl
-  one-ascending [] (y ∷ ys) a b h = absurd (let e = h (λ _. 1) in omega (arith, e))
-  one-ascending (x ∷ xs) [] a b h = absurd (let e = h (λ _. 1) in omega (arith, e))
-  one-ascending (x ∷ xs) (y ∷ ys) a b h =
-      let first = first-by o ties ties-Tells x y xs ys (λ e _. tied x y e) a b h in
-      ap (λ (z : X). z ∷ xs) first ∙ ap (λ (zs : List X). y ∷ zs) (one-ascending xs ys a.1 b.1 (λ f. let e = h f in let g = ap f first in omega (arith, e, g)))
-
-  -- put in order, two lists that have the same things each as often are one
-  pub in_order-same : (xs ys : List X) → SameBag xs ys → in_order order xs ≡ in_order order ys
-  in_order-same xs ys h =
-      one-ascending (in_order order xs) (in_order order ys) (ascends-in_order o xs) (ascends-in_order o ys)
-      (λ f. weigh-in_order order f xs ∙ h f ∙ sym (weigh-in_order order f ys))
