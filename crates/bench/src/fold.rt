@@ -6,7 +6,7 @@
 //! `{"d":"x","q":5}` and `[1]`, it prints `2 lines, 1 refused, 1 groups`.
 
 ghost use Rattle.std.specs.Prelude.{◌≤◌, ◌<◌, ◌^◌, IfSome, length};
-ghost use Rattle.tables.specs.Planned.{IsPartialUnder};
+ghost use Rattle.tables.specs.Partials.{IsPartialOf};
 
 use crate::hands_of;
 use lines::cut;
@@ -50,7 +50,7 @@ pub(crate) fn result_of<R: Threads + Wait + Sync>(
 ) -> Option<Partial>
     requires short { length input.now < 2 ^ 63 }
     requires hands { (1 ≤ hands) × (hands ≤ 64) }
-    ensures of_plan { IfSome result (IsPartialUnder plan.now) }
+    ensures of_plan { IfSome result (IsPartialOf plan.now) }
 {
     let Ok(pieces) = cut(alloc, input, PIECE) else {
         return None;

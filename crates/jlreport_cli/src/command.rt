@@ -2,7 +2,7 @@
 ghost use Rattle.std.specs.Prelude.{◌≡◌, ◌↔◌, [], ℕ, IfErr, IfOk, IfSome, IsNone, Some, codes, true};
 ghost use Rattle.clap.specs.Walk.{texts};
 ghost use Rattle.clap.specs.Words.{app_of, fault_of, kind_of, new_app};
-ghost use Rattle.jlreport_cli.specs.Matches.{IsNumberAt};
+ghost use Rattle.jlreport_cli.specs.Inside.Matches.{IsNumberAt};
 ghost use Rattle.semantics.specs.CommandLine.{IsNumberOf, IsSet, command, value_of, AreInRange, IsRefusalOf};
 
 use crate::arguments::{

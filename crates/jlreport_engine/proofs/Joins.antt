@@ -10,12 +10,10 @@ use Rattle.parts.specs.ReadingParts.{parts_at}
 use Rattle.parts.specs.declared.fault.PartsRefusal.{PartsRefusal}
 use Rattle.parts.specs.declared.fault.PartsRefusal.TheVariants as refusal
 use Rattle.query_plan.specs.Planned.{PlannedQuery}
-use Rattle.semantics.specs.Columns.{Field}
 use Rattle.semantics.specs.Joins.{ArePartsOf, CanBeJoined, IsJoin, IsPartialJoin, IsPartialRun, run_answer}
 use Rattle.semantics.specs.Lines.{lines}
 use Rattle.semantics.specs.Parts.{ContentsForm, concatenated, part_text}
 use Rattle.semantics.specs.Run.{IsRun, IsWithin}
-use Rattle.semantics.specs.Syntax.{TreeForm}
 use Rattle.semantics.specs.declared.join_fault.JoinFault.{JoinFault}
 use Rattle.semantics.specs.declared.join_fault.JoinFault.TheVariants.{Parts, Run}
 use Rattle.semantics.specs.declared.parts_fault.PartsFault.{PartsFault}
@@ -26,8 +24,8 @@ use Rattle.tables.specs.Partials.{StandsForInput}
 use Rattle.tables.specs.Sound.{IsSoundUnder}
 use Rattle.tables.specs.States.{PartialState}
 use Rattle.jlreport_scan.proofs.Tallies.{refused-of-input}
-use Rattle.jlreport_engine.specs.Joined.{IsJoined, IsOver, StopsJoin, fault_of_parts}
-use Rattle.jlreport_engine.specs.Run.{StandsForKnown}
+use Rattle.jlreport_engine.specs.Inside.Joined.{IsJoined, IsOver, StopsJoin, fault_of_parts}
+use Rattle.jlreport_engine.specs.Inside.Run.{StandsForKnown}
 use Rattle.jlreport_engine.proofs.Known.{stands-itself}
 use Rattle.jlreport_engine.proofs.Outcomes.{part-stopped, run-stopped}
 
@@ -36,10 +34,10 @@ use Rattle.jlreport_engine.proofs.Outcomes.{part-stopped, run-stopped}
 -- a result of parts stands for their inputs
 abbrev StandsForGiven : PlannedQuery → Option (List ℕ) → PartialState → Type 0
 StandsForGiven plan given partial =
-    IfSome given (λ bytes. (inputs : List (List ℕ)) → bytes ≡ flat_map (part_text plan.fields plan.query) inputs → StandsForInput plan.fields plan.query partial (concatenated inputs))
+    IfSome given (λ bytes. (inputs : List (List ℕ)) → bytes ≡ flat_map (part_text plan.fields plan.query) inputs → StandsForInput plan partial (concatenated inputs))
 
 given-stands : (plan : PlannedQuery) (given : Option (List ℕ)) (partial : PartialState) → StandsForGiven plan given partial
-    → (inputs : List (List ℕ)) → ArePartsOf plan.fields plan.query inputs given → StandsForInput plan.fields plan.query partial (concatenated inputs)
+    → (inputs : List (List ℕ)) → ArePartsOf plan.fields plan.query inputs given → StandsForInput plan partial (concatenated inputs)
 given-stands plan None partial stands inputs are = let wrong = are in absurd cc
 given-stands plan (Some bytes) partial stands inputs are = stands inputs (let same = are in cc)
 
@@ -80,7 +78,7 @@ given-taken : (plan : PlannedQuery) (given : Option (List ℕ)) (fault : PartsFa
 given-taken plan None fault takes inputs are can = let wrong = are in absurd cc
 given-taken plan (Some bytes) fault takes inputs are can = takes inputs (let same = are in cc) can
 
-refused-stops : (limit : Option ℕ) (plan : PlannedQuery) (given : Option (List ℕ)) (why : PartsRefusal) → TakesGiven {X = PartialState} plan given (Err why) → StopsJoin (fault_of_parts why) limit plan.fields plan.query given
+refused-stops : (limit : Option ℕ) (plan : PlannedQuery) (given : Option (List ℕ)) (why : PartsRefusal) → TakesGiven {X = PartialState} plan given (Err why) → StopsJoin (fault_of_parts why) limit plan given
 refused-stops limit plan given (refusal.Fault fault) takes = given-taken plan given fault takes
 refused-stops limit plan given refusal.Reading takes = (tt, λ inputs are. tt)
 refused-stops limit plan given refusal.OutOfMemory takes = (tt, λ inputs are. tt)
@@ -103,12 +101,12 @@ refused limit plan given why answers takes = record {
 
 -- parts of which more lines are refused than the limit
 over-stops : (limit : Option ℕ) (plan : PlannedQuery) (given : Option (List ℕ)) (partial : PartialState) (most : ℕ) → limit ≡ Some most → most < partial.refused
-    → StandsForGiven plan given partial → StopsJoin (Run (TooManyRefused most)) limit plan.fields plan.query given
+    → StandsForGiven plan given partial → StopsJoin (Run (TooManyRefused most)) limit plan given
 over-stops limit plan given partial most is more stands = (
   (is, tt),
   λ inputs are. (
     is,
-    subst (λ count. most < count) (refused-of-input plan.fields plan.query partial (concatenated inputs) (given-stands plan given partial stands inputs are)) more,
+    subst (λ count. most < count) (refused-of-input plan partial (concatenated inputs) (given-stands plan given partial stands inputs are)) more,
   ),
 )
 
@@ -140,7 +138,7 @@ pub record IsRead (plan : PlannedQuery) (given : Option (List ℕ)) (r : Result 
   pub sound : IfOk r (IsSoundUnder plan)
   pub answers : IfSome given (λ bytes. AnswersParts plan (lines (clip_lines bytes)) r)
   pub stands : IfSome given (λ bytes. (inputs : List (List ℕ)) → bytes ≡ flat_map (part_text plan.fields plan.query) inputs
-      → IfOk r (λ partial. StandsForInput plan.fields plan.query partial (concatenated inputs)))
+      → IfOk r (λ partial. StandsForInput plan partial (concatenated inputs)))
   pub takes : TakesGiven plan given r
 
 -- what holds of an answer holds where its fault is mapped
@@ -182,66 +180,66 @@ answers-run (Ok done) s is = ap run_answer is
 answers-run (Err fault) (Ok done) is = absurd is
 answers-run (Err fault) (Err given) is = ap (λ (f : JoinFault). run_answer (Err f)) is
 
-pub is-join : (r : Result Done RunFault) (s : Result Done JoinFault) (limit : Option ℕ) (fields : List Field) (q : TreeForm) (given : Option (List ℕ)) (whole : PartialState) (oo on eo en : Option (List ℕ))
+pub is-join : (r : Result Done RunFault) (s : Result Done JoinFault) (limit : Option ℕ) (plan : PlannedQuery) (given : Option (List ℕ)) (whole : PartialState) (oo on eo en : Option (List ℕ))
     → run_answer s ≡ Some r
-    → ((limit : Option ℕ) (known : Option (List ℕ)) → IsWithin limit whole.refused → StandsForKnown fields q known whole → IsRun r limit fields q known oo on eo en)
+    → ((limit : Option ℕ) (known : Option (List ℕ)) → IsWithin limit whole.refused → StandsForKnown plan known whole → IsRun r limit plan.fields plan.query known oo on eo en)
     → IsWithin limit whole.refused
-    → ((inputs : List (List ℕ)) → ArePartsOf fields q inputs given → StandsForInput fields q whole (concatenated inputs))
-    → IsJoin s limit fields q given oo on eo en
-is-join r s limit fields q given whole oo on eo en same run within stands = record {
+    → ((inputs : List (List ℕ)) → ArePartsOf plan.fields plan.query inputs given → StandsForInput plan whole (concatenated inputs))
+    → IsJoin s limit plan.fields plan.query given oo on eo en
+is-join r s limit plan given whole oo on eo en same run within stands = record {
   is_run = λ inputs are.
-      subst (λ (o : Option (Result Done RunFault)). IfSome o (λ answer. IsRun answer limit fields q (Some (concatenated inputs)) oo on eo en)) (sym same)
-      (run limit (Some (concatenated inputs)) within (stands-itself fields q whole (concatenated inputs) (stands inputs are)));
+      subst (λ (o : Option (Result Done RunFault)). IfSome o (λ answer. IsRun answer limit plan.fields plan.query (Some (concatenated inputs)) oo on eo en)) (sym same)
+      (run limit (Some (concatenated inputs)) within (stands-itself plan whole (concatenated inputs) (stands inputs are)));
   takes = λ inputs are can. subst (λ (o : Option (Result Done RunFault)). IsSome o) (sym same) refl;
-  is_some_run = subst (λ (o : Option (Result Done RunFault)). IfSome o (λ answer. IsRun answer limit fields q None oo on eo en)) (sym same) (run limit None within tt);
+  is_some_run = subst (λ (o : Option (Result Done RunFault)). IfSome o (λ answer. IsRun answer limit plan.fields plan.query None oo on eo en)) (sym same) (run limit None within tt);
   keeps = λ none. let wrong = subst (λ (o : Option (Result Done RunFault)). IsNone o) same none in absurd cc;
 }
 
-pub is-partial-join : (r : Result Done RunFault) (s : Result Done JoinFault) (limit : Option ℕ) (fields : List Field) (q : TreeForm) (given : Option (List ℕ)) (whole : PartialState) (oo on : Option (List ℕ))
+pub is-partial-join : (r : Result Done RunFault) (s : Result Done JoinFault) (limit : Option ℕ) (plan : PlannedQuery) (given : Option (List ℕ)) (whole : PartialState) (oo on : Option (List ℕ))
     → run_answer s ≡ Some r
-    → ((limit : Option ℕ) (known : Option (List ℕ)) → IsWithin limit whole.refused → StandsForKnown fields q known whole → IsPartialRun r limit fields q known oo on)
+    → ((limit : Option ℕ) (known : Option (List ℕ)) → IsWithin limit whole.refused → StandsForKnown plan known whole → IsPartialRun r limit plan.fields plan.query known oo on)
     → IsWithin limit whole.refused
-    → ((inputs : List (List ℕ)) → ArePartsOf fields q inputs given → StandsForInput fields q whole (concatenated inputs))
-    → IsPartialJoin s limit fields q given oo on
-is-partial-join r s limit fields q given whole oo on same run within stands = record {
+    → ((inputs : List (List ℕ)) → ArePartsOf plan.fields plan.query inputs given → StandsForInput plan whole (concatenated inputs))
+    → IsPartialJoin s limit plan.fields plan.query given oo on
+is-partial-join r s limit plan given whole oo on same run within stands = record {
   is_run = λ inputs are.
-      subst (λ (o : Option (Result Done RunFault)). IfSome o (λ answer. IsPartialRun answer limit fields q (Some (concatenated inputs)) oo on)) (sym same)
-      (run limit (Some (concatenated inputs)) within (stands-itself fields q whole (concatenated inputs) (stands inputs are)));
+      subst (λ (o : Option (Result Done RunFault)). IfSome o (λ answer. IsPartialRun answer limit plan.fields plan.query (Some (concatenated inputs)) oo on)) (sym same)
+      (run limit (Some (concatenated inputs)) within (stands-itself plan whole (concatenated inputs) (stands inputs are)));
   takes = λ inputs are can. subst (λ (o : Option (Result Done RunFault)). IsSome o) (sym same) refl;
-  is_some_run = subst (λ (o : Option (Result Done RunFault)). IfSome o (λ answer. IsPartialRun answer limit fields q None oo on)) (sym same) (run limit None within tt);
+  is_some_run = subst (λ (o : Option (Result Done RunFault)). IfSome o (λ answer. IsPartialRun answer limit plan.fields plan.query None oo on)) (sym same) (run limit None within tt);
   keeps = λ none. let wrong = subst (λ (o : Option (Result Done RunFault)). IsNone o) same none in absurd cc;
 }
 
 -- joins that fail before anything is written
-stopped : (fault : JoinFault) (limit : Option ℕ) (fields : List Field) (q : TreeForm) (given out err : Option (List ℕ)) → StopsJoin fault limit fields q given
-    → IsJoin (Err fault) limit fields q given out out err err
-stopped (Parts fault) limit fields q given out err stops = record { is_run = λ inputs are. tt; takes = λ inputs are can. absurd (stops inputs are can); is_some_run = tt; keeps = λ _. (Keeps-refl out, Keeps-refl err) }
-stopped (Run fault) limit fields q given out err stops = record {
-  is_run = λ inputs are. run-stopped (Err fault) fault limit fields q (Some (concatenated inputs)) out err refl (stops.1 inputs are);
+stopped : (fault : JoinFault) (limit : Option ℕ) (plan : PlannedQuery) (given out err : Option (List ℕ)) → StopsJoin fault limit plan given
+    → IsJoin (Err fault) limit plan.fields plan.query given out out err err
+stopped (Parts fault) limit plan given out err stops = record { is_run = λ inputs are. tt; takes = λ inputs are can. absurd (stops inputs are can); is_some_run = tt; keeps = λ _. (Keeps-refl out, Keeps-refl err) }
+stopped (Run fault) limit plan given out err stops = record {
+  is_run = λ inputs are. run-stopped (Err fault) fault limit plan (Some (concatenated inputs)) out err refl (stops.1 inputs are);
   takes = λ inputs are can. refl;
-  is_some_run = run-stopped (Err fault) fault limit fields q None out err refl stops.0;
+  is_some_run = run-stopped (Err fault) fault limit plan None out err refl stops.0;
   keeps = λ none. let wrong = none in absurd cc;
 }
 
-pub join-stopped : (s : Result Done JoinFault) (fault : JoinFault) (limit : Option ℕ) (fields : List Field) (q : TreeForm) (given out err : Option (List ℕ))
-    → IsErrAnd s (λ f. f ≡ fault) → StopsJoin fault limit fields q given → IsJoin s limit fields q given out out err err
-join-stopped (Ok done) fault limit fields q given out err is stops = absurd is
-join-stopped (Err f) fault limit fields q given out err is stops = stopped f limit fields q given out err (subst (λ (x : JoinFault). StopsJoin x limit fields q given) (sym is) stops)
+pub join-stopped : (s : Result Done JoinFault) (fault : JoinFault) (limit : Option ℕ) (plan : PlannedQuery) (given out err : Option (List ℕ))
+    → IsErrAnd s (λ f. f ≡ fault) → StopsJoin fault limit plan given → IsJoin s limit plan.fields plan.query given out out err err
+join-stopped (Ok done) fault limit plan given out err is stops = absurd is
+join-stopped (Err f) fault limit plan given out err is stops = stopped f limit plan given out err (subst (λ (x : JoinFault). StopsJoin x limit plan given) (sym is) stops)
 
-partial-stopped : (fault : JoinFault) (limit : Option ℕ) (fields : List Field) (q : TreeForm) (given out : Option (List ℕ)) → StopsJoin fault limit fields q given
-    → IsPartialJoin (Err fault) limit fields q given out out
-partial-stopped (Parts fault) limit fields q given out stops = record { is_run = λ inputs are. tt; takes = λ inputs are can. absurd (stops inputs are can); is_some_run = tt; keeps = λ _. Keeps-refl out }
-partial-stopped (Run fault) limit fields q given out stops = record {
-  is_run = λ inputs are. part-stopped (Err fault) fault limit fields q (Some (concatenated inputs)) out refl (stops.1 inputs are);
+partial-stopped : (fault : JoinFault) (limit : Option ℕ) (plan : PlannedQuery) (given out : Option (List ℕ)) → StopsJoin fault limit plan given
+    → IsPartialJoin (Err fault) limit plan.fields plan.query given out out
+partial-stopped (Parts fault) limit plan given out stops = record { is_run = λ inputs are. tt; takes = λ inputs are can. absurd (stops inputs are can); is_some_run = tt; keeps = λ _. Keeps-refl out }
+partial-stopped (Run fault) limit plan given out stops = record {
+  is_run = λ inputs are. part-stopped (Err fault) fault limit plan (Some (concatenated inputs)) out refl (stops.1 inputs are);
   takes = λ inputs are can. refl;
-  is_some_run = part-stopped (Err fault) fault limit fields q None out refl stops.0;
+  is_some_run = part-stopped (Err fault) fault limit plan None out refl stops.0;
   keeps = λ none. let wrong = none in absurd cc;
 }
 
-pub partial-join-stopped : (s : Result Done JoinFault) (fault : JoinFault) (limit : Option ℕ) (fields : List Field) (q : TreeForm) (given out : Option (List ℕ))
-    → IsErrAnd s (λ f. f ≡ fault) → StopsJoin fault limit fields q given → IsPartialJoin s limit fields q given out out
-partial-join-stopped (Ok done) fault limit fields q given out is stops = absurd is
-partial-join-stopped (Err f) fault limit fields q given out is stops = partial-stopped f limit fields q given out (subst (λ (x : JoinFault). StopsJoin x limit fields q given) (sym is) stops)
+pub partial-join-stopped : (s : Result Done JoinFault) (fault : JoinFault) (limit : Option ℕ) (plan : PlannedQuery) (given out : Option (List ℕ))
+    → IsErrAnd s (λ f. f ≡ fault) → StopsJoin fault limit plan given → IsPartialJoin s limit plan.fields plan.query given out out
+partial-join-stopped (Ok done) fault limit plan given out is stops = absurd is
+partial-join-stopped (Err f) fault limit plan given out is stops = partial-stopped f limit plan given out (subst (λ (x : JoinFault). StopsJoin x limit plan given) (sym is) stops)
 
 -- ---- what is said of the reading
 
@@ -285,8 +283,8 @@ started-stopped (Err f) fault is not = λ no. not (sym is ∙ no)
 -- ---- joins that get no seed
 
 -- a failed read stops a join, whatever was given
-pub join-unseeded : (fault : JoinFault) (limit : Option ℕ) (fields : List Field) (q : TreeForm) (given : Option (List ℕ)) → fault ≡ Run Reading → StopsJoin fault limit fields q given
-join-unseeded fault limit fields q given is = subst (λ (f : JoinFault). StopsJoin f limit fields q given) (sym is) (tt, λ inputs are. tt)
+pub join-unseeded : (fault : JoinFault) (limit : Option ℕ) (plan : PlannedQuery) (given : Option (List ℕ)) → fault ≡ Run Reading → StopsJoin fault limit plan given
+join-unseeded fault limit plan given is = subst (λ (f : JoinFault). StopsJoin f limit plan given) (sym is) (tt, λ inputs are. tt)
 
 -- it says nothing of what would be read
 nothing-read : (given : Option (List ℕ)) (read : List ℕ → Result (List ContentsForm) PartedFault) → IfSome given (λ bytes. IsReadAs {X = PartialState} (Err (Run Reading)) (read bytes))

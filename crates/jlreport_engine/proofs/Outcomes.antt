@@ -8,7 +8,6 @@ use Rattle.semantics.specs.Joins.{IsPartialRun, LeavesPart}
 use Rattle.semantics.specs.Parts.{part_text}
 use Rattle.semantics.specs.Records.{refused_lines}
 use Rattle.semantics.specs.Run.{AppendsBeginning, IsAnswer, IsResourceFault, IsRun, IsWithin, Leaves, refusals, report}
-use Rattle.semantics.specs.Syntax.{TreeForm}
 use Rattle.semantics.specs.declared.run_done.Done.{Done}
 use Rattle.semantics.specs.declared.run_fault.RunFault.{RunFault}
 use Rattle.semantics.specs.declared.run_fault.RunFault.TheVariants.{Reading, OutOfMemory, ThreadNotStarted, TooManyRefused, WritingReport, WritingRefused, WritingPart}
@@ -17,9 +16,10 @@ use Rattle.jlreport_scan.specs.Faults.{Stops}
 use Rattle.jlreport_scan.specs.RunFaults.{fault_of_gathering}
 use Rattle.jlreport_scan.specs.declared.fault.GatherFault.{GatherFault}
 use Rattle.jlreport_scan.specs.declared.fault.GatherFault.TheVariants as gathering
-use Rattle.jlreport_engine.specs.Run.{StandsForKnown, StandsForReading, StopsRun}
-use Rattle.jlreport_engine.specs.Written.{LeavesWritten}
+use Rattle.jlreport_engine.specs.Inside.Run.{StandsForKnown, StandsForReading, StopsRun}
+use Rattle.jlreport_engine.specs.Inside.Written.{LeavesWritten}
 use Rattle.jlreport_engine.proofs.Known.{IsTextOf, lines-read, part-read, refusals-read, refused-read, report-read}
+use Rattle.query_plan.specs.Planned.{PlannedQuery}
 
 -- ---- what is answered
 
@@ -29,14 +29,14 @@ pub record Counts (done : Done) (limit : Option ℕ) (partial : PartialState) : 
   pub refused : done.refused ≡ partial.refused
   pub within : IsWithin limit partial.refused
 
-pub answer-done : (done : Done) (limit : Option ℕ) (fields : List Field) (q : TreeForm) (known : Option (List ℕ)) (partial : PartialState)
-    → Counts done limit partial → StandsForKnown fields q known partial → IsAnswer (Ok done) limit fields known
-answer-done done limit fields q None partial counts stands =
+pub answer-done : (done : Done) (limit : Option ℕ) (plan : PlannedQuery) (known : Option (List ℕ)) (partial : PartialState)
+    → Counts done limit partial → StandsForKnown plan known partial → IsAnswer (Ok done) limit plan.fields known
+answer-done done limit plan None partial counts stands =
     record { counts_lines = tt; counts_refused = tt; is_within = subst (IsWithin limit) (sym counts.refused) counts.within; is_decided = λ _. tt }
-answer-done done limit fields q (Some input) partial counts stands =
-    let count = refused-read fields q partial input stands in
+answer-done done limit plan (Some input) partial counts stands =
+    let count = refused-read plan partial input stands in
     record {
-      counts_lines = counts.lines ∙ lines-read fields q partial input stands;
+      counts_lines = counts.lines ∙ lines-read plan partial input stands;
       counts_refused = counts.refused ∙ count;
       is_within = subst (IsWithin limit) (sym counts.refused) counts.within;
       is_decided = λ _. (λ _. subst (IsWithin limit) count counts.within, λ _. refl);
@@ -83,62 +83,62 @@ thread-gathered gathering.OutOfMemory h = λ no. let wrong = no in absurd cc
 thread-gathered gathering.ThreadNotStarted h = λ no. h refl
 thread-gathered (gathering.TooManyRefused most) h = λ no. let wrong = no in absurd cc
 
-leaves-stopped : (fault : RunFault) (limit : Option ℕ) (fields : List Field) (q : TreeForm) (known out err : Option (List ℕ)) → StopsRun fault limit fields known
-    → Keeps out out → Keeps err err → Leaves fault limit fields q known out out err err
-leaves-stopped Reading limit fields q known out err stops a b = (a, b)
-leaves-stopped OutOfMemory limit fields q known out err stops a b = (a, b)
-leaves-stopped ThreadNotStarted limit fields q known out err stops a b = (a, b)
-leaves-stopped (TooManyRefused most) limit fields q known out err stops a b = (stops.0, stops.1, a, b)
-leaves-stopped WritingReport limit fields q known out err stops a b = absurd stops
-leaves-stopped WritingRefused limit fields q known out err stops a b = absurd stops
-leaves-stopped WritingPart limit fields q known out err stops a b = absurd stops
+leaves-stopped : (fault : RunFault) (limit : Option ℕ) (plan : PlannedQuery) (known out err : Option (List ℕ)) → StopsRun fault limit plan.fields known
+    → Keeps out out → Keeps err err → Leaves fault limit plan.fields plan.query known out out err err
+leaves-stopped Reading limit plan known out err stops a b = (a, b)
+leaves-stopped OutOfMemory limit plan known out err stops a b = (a, b)
+leaves-stopped ThreadNotStarted limit plan known out err stops a b = (a, b)
+leaves-stopped (TooManyRefused most) limit plan known out err stops a b = (stops.0, stops.1, a, b)
+leaves-stopped WritingReport limit plan known out err stops a b = absurd stops
+leaves-stopped WritingRefused limit plan known out err stops a b = absurd stops
+leaves-stopped WritingPart limit plan known out err stops a b = absurd stops
 
-leaves-part-stopped : (fault : RunFault) (limit : Option ℕ) (fields : List Field) (q : TreeForm) (known out : Option (List ℕ)) → StopsRun fault limit fields known
-    → Keeps out out → LeavesPart fault limit fields q known out out
-leaves-part-stopped Reading limit fields q known out stops a = a
-leaves-part-stopped OutOfMemory limit fields q known out stops a = a
-leaves-part-stopped ThreadNotStarted limit fields q known out stops a = a
-leaves-part-stopped (TooManyRefused most) limit fields q known out stops a = (stops.0, stops.1, a)
-leaves-part-stopped WritingReport limit fields q known out stops a = absurd stops
-leaves-part-stopped WritingRefused limit fields q known out stops a = absurd stops
-leaves-part-stopped WritingPart limit fields q known out stops a = absurd stops
+leaves-part-stopped : (fault : RunFault) (limit : Option ℕ) (plan : PlannedQuery) (known out : Option (List ℕ)) → StopsRun fault limit plan.fields known
+    → Keeps out out → LeavesPart fault limit plan.fields plan.query known out out
+leaves-part-stopped Reading limit plan known out stops a = a
+leaves-part-stopped OutOfMemory limit plan known out stops a = a
+leaves-part-stopped ThreadNotStarted limit plan known out stops a = a
+leaves-part-stopped (TooManyRefused most) limit plan known out stops a = (stops.0, stops.1, a)
+leaves-part-stopped WritingReport limit plan known out stops a = absurd stops
+leaves-part-stopped WritingRefused limit plan known out stops a = absurd stops
+leaves-part-stopped WritingPart limit plan known out stops a = absurd stops
 
-pub run-stopped : (r : Result Done RunFault) (fault : RunFault) (limit : Option ℕ) (fields : List Field) (q : TreeForm) (known out err : Option (List ℕ))
-    → IsErrAnd r (λ given. given ≡ fault) → StopsRun fault limit fields known → IsRun r limit fields q known out out err err
-run-stopped (Ok done) fault limit fields q known out err is stops = absurd is
-run-stopped (Err given) fault limit fields q known out err is stops =
-    let stopped = subst (λ (f : RunFault). StopsRun f limit fields known) (sym is) stops in
+pub run-stopped : (r : Result Done RunFault) (fault : RunFault) (limit : Option ℕ) (plan : PlannedQuery) (known out err : Option (List ℕ))
+    → IsErrAnd r (λ given. given ≡ fault) → StopsRun fault limit plan.fields known → IsRun r limit plan.fields plan.query known out out err err
+run-stopped (Ok done) fault limit plan known out err is stops = absurd is
+run-stopped (Err given) fault limit plan known out err is stops =
+    let stopped = subst (λ (f : RunFault). StopsRun f limit plan.fields known) (sym is) stops in
     record {
       writes_report = tt;
       writes_refusals = tt;
-      answers = answer-stopped given limit fields known stopped;
-      leaves = leaves-stopped given limit fields q known out err stopped (Keeps-refl out) (Keeps-refl err);
+      answers = answer-stopped given limit plan.fields known stopped;
+      leaves = leaves-stopped given limit plan known out err stopped (Keeps-refl out) (Keeps-refl err);
     }
 
-pub part-stopped : (r : Result Done RunFault) (fault : RunFault) (limit : Option ℕ) (fields : List Field) (q : TreeForm) (known out : Option (List ℕ))
-    → IsErrAnd r (λ given. given ≡ fault) → StopsRun fault limit fields known → IsPartialRun r limit fields q known out out
-part-stopped (Ok done) fault limit fields q known out is stops = absurd is
-part-stopped (Err given) fault limit fields q known out is stops =
-    let stopped = subst (λ (f : RunFault). StopsRun f limit fields known) (sym is) stops in
+pub part-stopped : (r : Result Done RunFault) (fault : RunFault) (limit : Option ℕ) (plan : PlannedQuery) (known out : Option (List ℕ))
+    → IsErrAnd r (λ given. given ≡ fault) → StopsRun fault limit plan.fields known → IsPartialRun r limit plan.fields plan.query known out out
+part-stopped (Ok done) fault limit plan known out is stops = absurd is
+part-stopped (Err given) fault limit plan known out is stops =
+    let stopped = subst (λ (f : RunFault). StopsRun f limit plan.fields known) (sym is) stops in
     record {
       writes_part = tt;
-      answers = answer-stopped given limit fields known stopped;
-      leaves = leaves-part-stopped given limit fields q known out stopped (Keeps-refl out);
+      answers = answer-stopped given limit plan.fields known stopped;
+      leaves = leaves-part-stopped given limit plan known out stopped (Keeps-refl out);
     }
 
 -- ---- runs that write
 
 -- what is known of a text that was written is known of that of the input
-of-text : (P : List ℕ → Type 0) (text : List ℕ) (text_over : List ℕ → List ℕ) (fields : List Field) (q : TreeForm) (known : Option (List ℕ)) (partial : PartialState)
-    → ((input : List ℕ) → StandsForReading fields q partial input → text ≡ text_over input) → StandsForKnown fields q known partial → P text → IfSome known (λ input. P (text_over input))
-of-text P text text_over fields q None partial is stands holds = tt
-of-text P text text_over fields q (Some input) partial is stands holds = subst P (is input stands) holds
+of-text : (P : List ℕ → Type 0) (text : List ℕ) (text_over : List ℕ → List ℕ) (plan : PlannedQuery) (known : Option (List ℕ)) (partial : PartialState)
+    → ((input : List ℕ) → StandsForReading plan partial input → text ≡ text_over input) → StandsForKnown plan known partial → P text → IfSome known (λ input. P (text_over input))
+of-text P text text_over plan None partial is stands holds = tt
+of-text P text text_over plan (Some input) partial is stands holds = subst P (is input stands) holds
 
 -- not more lines of a known input are refused than the limit
-few-known : (limit : Option ℕ) (fields : List Field) (q : TreeForm) (known : Option (List ℕ)) (partial : PartialState) → IsWithin limit partial.refused
-    → StandsForKnown fields q known partial → IfSome known (λ input. IsWithin limit (length (refused_lines fields input)))
-few-known limit fields q None partial within stands = tt
-few-known limit fields q (Some input) partial within stands = subst (IsWithin limit) (refused-read fields q partial input stands) within
+few-known : (limit : Option ℕ) (plan : PlannedQuery) (known : Option (List ℕ)) (partial : PartialState) → IsWithin limit partial.refused
+    → StandsForKnown plan known partial → IfSome known (λ input. IsWithin limit (length (refused_lines plan.fields input)))
+few-known limit plan None partial within stands = tt
+few-known limit plan (Some input) partial within stands = subst (IsWithin limit) (refused-read plan partial input stands) within
 
 both-known : (known : Option (List ℕ)) (P Q : List ℕ → Type 0) → IfSome known P → IfSome known Q → IfSome known (λ input. P input × Q input)
 both-known None P Q p q = tt
@@ -149,50 +149,50 @@ all-known None P Q R p q r = tt
 all-known (Some input) P Q R p q r = (p, q, r)
 
 -- the texts of a result
-pub record AreTextsOf (fields : List Field) (q : TreeForm) (partial : PartialState) (text list : List ℕ) : Type 0 where
-  pub report : IsTextOf (report fields q) fields q partial text
-  pub refusals : IsTextOf (refusals fields) fields q partial list
+pub record AreTextsOf (plan : PlannedQuery) (partial : PartialState) (text list : List ℕ) : Type 0 where
+  pub report : IsTextOf (report plan.fields plan.query) plan partial text
+  pub refusals : IsTextOf (refusals plan.fields) plan partial list
 
 -- both texts were written
-pub run-done : (done : Done) (limit : Option ℕ) (fields : List Field) (q : TreeForm) (known : Option (List ℕ)) (partial : PartialState) (text list : List ℕ) (oo on eo en : Option (List ℕ))
-    → Counts done limit partial → StandsForKnown fields q known partial → AreTextsOf fields q partial text list → Appends oo on text → Appends eo en list
-    → IsRun (Ok done) limit fields q known oo on eo en
-run-done done limit fields q known partial text list oo on eo en counts stands are written listed = record {
-  writes_report = of-text (Appends oo on) text (report fields q) fields q known partial (λ input. report-read fields q partial text input are.report) stands written;
-  writes_refusals = of-text (Appends eo en) list (refusals fields) fields q known partial (λ input. refusals-read fields q partial list input are.refusals) stands listed;
-  answers = answer-done done limit fields q known partial counts stands;
+pub run-done : (done : Done) (limit : Option ℕ) (plan : PlannedQuery) (known : Option (List ℕ)) (partial : PartialState) (text list : List ℕ) (oo on eo en : Option (List ℕ))
+    → Counts done limit partial → StandsForKnown plan known partial → AreTextsOf plan partial text list → Appends oo on text → Appends eo en list
+    → IsRun (Ok done) limit plan.fields plan.query known oo on eo en
+run-done done limit plan known partial text list oo on eo en counts stands are written listed = record {
+  writes_report = of-text (Appends oo on) text (report plan.fields plan.query) plan known partial (λ input. report-read plan partial text input are.report) stands written;
+  writes_refusals = of-text (Appends eo en) list (refusals plan.fields) plan known partial (λ input. refusals-read plan partial list input are.refusals) stands listed;
+  answers = answer-done done limit plan known partial counts stands;
   leaves = tt;
 }
 
 -- a write of them failed
-pub run-unwritten : (fault : RunFault) (limit : Option ℕ) (fields : List Field) (q : TreeForm) (known : Option (List ℕ)) (partial : PartialState) (text list : List ℕ) (oo on eo en : Option (List ℕ))
-    → IsWithin limit partial.refused → StandsForKnown fields q known partial → AreTextsOf fields q partial text list → LeavesWritten fault text list oo on eo en
-    → IsRun (Err fault) limit fields q known oo on eo en
-run-unwritten Reading limit fields q known partial text list oo on eo en within stands are left = absurd left
-run-unwritten OutOfMemory limit fields q known partial text list oo on eo en within stands are left = absurd left
-run-unwritten ThreadNotStarted limit fields q known partial text list oo on eo en within stands are left = absurd left
-run-unwritten (TooManyRefused most) limit fields q known partial text list oo on eo en within stands are left = absurd left
-run-unwritten WritingPart limit fields q known partial text list oo on eo en within stands are left = absurd left
-run-unwritten WritingReport limit fields q known partial text list oo on eo en within stands are left = record {
+pub run-unwritten : (fault : RunFault) (limit : Option ℕ) (plan : PlannedQuery) (known : Option (List ℕ)) (partial : PartialState) (text list : List ℕ) (oo on eo en : Option (List ℕ))
+    → IsWithin limit partial.refused → StandsForKnown plan known partial → AreTextsOf plan partial text list → LeavesWritten fault text list oo on eo en
+    → IsRun (Err fault) limit plan.fields plan.query known oo on eo en
+run-unwritten Reading limit plan known partial text list oo on eo en within stands are left = absurd left
+run-unwritten OutOfMemory limit plan known partial text list oo on eo en within stands are left = absurd left
+run-unwritten ThreadNotStarted limit plan known partial text list oo on eo en within stands are left = absurd left
+run-unwritten (TooManyRefused most) limit plan known partial text list oo on eo en within stands are left = absurd left
+run-unwritten WritingPart limit plan known partial text list oo on eo en within stands are left = absurd left
+run-unwritten WritingReport limit plan known partial text list oo on eo en within stands are left = record {
   writes_report = tt;
   writes_refusals = tt;
-  answers = answer-resource WritingReport limit fields known tt;
+  answers = answer-resource WritingReport limit plan.fields known tt;
   leaves = (
-    both-known known (λ input. IsWithin limit (length (refused_lines fields input))) (λ input. AppendsBeginning oo on (report fields q input))
-        (few-known limit fields q known partial within stands)
-        (of-text (AppendsBeginning oo on) text (report fields q) fields q known partial (λ input. report-read fields q partial text input are.report) stands left.0),
+    both-known known (λ input. IsWithin limit (length (refused_lines plan.fields input))) (λ input. AppendsBeginning oo on (report plan.fields plan.query input))
+        (few-known limit plan known partial within stands)
+        (of-text (AppendsBeginning oo on) text (report plan.fields plan.query) plan known partial (λ input. report-read plan partial text input are.report) stands left.0),
     left.1,
   );
 }
-run-unwritten WritingRefused limit fields q known partial text list oo on eo en within stands are left = record {
+run-unwritten WritingRefused limit plan known partial text list oo on eo en within stands are left = record {
   writes_report = tt;
   writes_refusals = tt;
-  answers = answer-resource WritingRefused limit fields known tt;
+  answers = answer-resource WritingRefused limit plan.fields known tt;
   leaves =
-      all-known known (λ input. IsWithin limit (length (refused_lines fields input))) (λ input. Appends oo on (report fields q input)) (λ input. AppendsBeginning eo en (refusals fields input))
-      (few-known limit fields q known partial within stands)
-      (of-text (Appends oo on) text (report fields q) fields q known partial (λ input. report-read fields q partial text input are.report) stands left.0)
-      (of-text (AppendsBeginning eo en) list (refusals fields) fields q known partial (λ input. refusals-read fields q partial list input are.refusals) stands left.1);
+      all-known known (λ input. IsWithin limit (length (refused_lines plan.fields input))) (λ input. Appends oo on (report plan.fields plan.query input)) (λ input. AppendsBeginning eo en (refusals plan.fields input))
+      (few-known limit plan known partial within stands)
+      (of-text (Appends oo on) text (report plan.fields plan.query) plan known partial (λ input. report-read plan partial text input are.report) stands left.0)
+      (of-text (AppendsBeginning eo en) list (refusals plan.fields) plan known partial (λ input. refusals-read plan partial list input are.refusals) stands left.1);
 }
 
 -- no fault of writing is one of a thread
@@ -201,23 +201,23 @@ thread-unwritten fault text list oo on eo en left e = subst (λ (f : RunFault). 
 
 -- ---- runs that write a part
 
-pub part-done : (done : Done) (limit : Option ℕ) (fields : List Field) (q : TreeForm) (known : Option (List ℕ)) (partial : PartialState) (text : List ℕ) (oo on : Option (List ℕ))
-    → Counts done limit partial → StandsForKnown fields q known partial → IsTextOf (part_text fields q) fields q partial text → Appends oo on text
-    → IsPartialRun (Ok done) limit fields q known oo on
-part-done done limit fields q known partial text oo on counts stands is written = record {
-  writes_part = of-text (Appends oo on) text (part_text fields q) fields q known partial (λ input. part-read fields q partial text input is) stands written;
-  answers = answer-done done limit fields q known partial counts stands;
+pub part-done : (done : Done) (limit : Option ℕ) (plan : PlannedQuery) (known : Option (List ℕ)) (partial : PartialState) (text : List ℕ) (oo on : Option (List ℕ))
+    → Counts done limit partial → StandsForKnown plan known partial → IsTextOf (part_text plan.fields plan.query) plan partial text → Appends oo on text
+    → IsPartialRun (Ok done) limit plan.fields plan.query known oo on
+part-done done limit plan known partial text oo on counts stands is written = record {
+  writes_part = of-text (Appends oo on) text (part_text plan.fields plan.query) plan known partial (λ input. part-read plan partial text input is) stands written;
+  answers = answer-done done limit plan known partial counts stands;
   leaves = tt;
 }
 
-pub part-unwritten : (limit : Option ℕ) (fields : List Field) (q : TreeForm) (known : Option (List ℕ)) (partial : PartialState) (text : List ℕ) (oo on : Option (List ℕ))
-    → IsWithin limit partial.refused → StandsForKnown fields q known partial → IsTextOf (part_text fields q) fields q partial text → AppendsBeginning oo on text
-    → IsPartialRun (Err WritingPart) limit fields q known oo on
-part-unwritten limit fields q known partial text oo on within stands is begun = record {
+pub part-unwritten : (limit : Option ℕ) (plan : PlannedQuery) (known : Option (List ℕ)) (partial : PartialState) (text : List ℕ) (oo on : Option (List ℕ))
+    → IsWithin limit partial.refused → StandsForKnown plan known partial → IsTextOf (part_text plan.fields plan.query) plan partial text → AppendsBeginning oo on text
+    → IsPartialRun (Err WritingPart) limit plan.fields plan.query known oo on
+part-unwritten limit plan known partial text oo on within stands is begun = record {
   writes_part = tt;
-  answers = answer-resource WritingPart limit fields known tt;
+  answers = answer-resource WritingPart limit plan.fields known tt;
   leaves =
-      both-known known (λ input. IsWithin limit (length (refused_lines fields input))) (λ input. AppendsBeginning oo on (part_text fields q input))
-      (few-known limit fields q known partial within stands)
-      (of-text (AppendsBeginning oo on) text (part_text fields q) fields q known partial (λ input. part-read fields q partial text input is) stands begun);
+      both-known known (λ input. IsWithin limit (length (refused_lines plan.fields input))) (λ input. AppendsBeginning oo on (part_text plan.fields plan.query input))
+      (few-known limit plan known partial within stands)
+      (of-text (AppendsBeginning oo on) text (part_text plan.fields plan.query) plan known partial (λ input. part-read plan partial text input is) stands begun);
 }

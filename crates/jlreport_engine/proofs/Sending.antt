@@ -10,7 +10,7 @@ use Rattle.semantics.specs.Run.{AppendsBeginning}
 use Rattle.semantics.specs.Texts.{refused_line}
 use Rattle.semantics.specs.declared.line_fault.LineFault.{LineFault}
 use Rattle.semantics.specs.declared.line_fault.LineFault.TheVariants.{TooLong}
-use Rattle.jlreport_engine.specs.Written.{Sends}
+use Rattle.jlreport_engine.specs.Inside.Written.{Sends}
 
 regroup : (a b c d : List ℕ) → (a ++ (b ++ c)) ++ d ≡ (a ++ b) ++ (c ++ d)
 regroup a b c d = ap (λ (xs : List ℕ). xs ++ d) (sym (append_assoc a b c)) ∙ append_assoc (a ++ b) c d

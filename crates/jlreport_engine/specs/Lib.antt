@@ -1,3 +1,1 @@
-pub mod Joined
-pub mod Run
-pub mod Written
+pub mod Inside

@@ -3,7 +3,7 @@ ghost use Rattle.std.specs.Prelude.{◌≡◌, ◌≢◌, IfErr, IfSome, OnOk};
 ghost use Rattle.parts.specs.Joining.{IsReadOf};
 ghost use Rattle.semantics.specs.Joins.{IsJoin, IsPartialJoin};
 ghost use Rattle.semantics.specs.Run.{IsWithin};
-ghost use Rattle.jlreport_engine.specs.Joined.{IsJoined, IsOver, fault_of_parts};
+ghost use Rattle.jlreport_engine.specs.Inside.Joined.{IsJoined, IsOver, fault_of_parts};
 
 use crate::parting::write_whole_part;
 use crate::running::write_whole;

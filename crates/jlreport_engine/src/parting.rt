@@ -2,7 +2,7 @@
 ghost use Rattle.std.specs.Prelude.{◌≡◌, ◌≢◌, ℕ, List, Option, IfErr};
 ghost use Rattle.semantics.specs.Joins.{IsPartialRun};
 ghost use Rattle.semantics.specs.Run.{IsWithin};
-ghost use Rattle.jlreport_engine.specs.Run.{StandsForKnown};
+ghost use Rattle.jlreport_engine.specs.Inside.Run.{StandsForKnown};
 
 use crate::seeding::random_seed;
 use crate::writing::put_and_flush;
@@ -62,7 +62,7 @@ pub(crate) fn write_whole_part<O: Write>(
     out: &mut O,
 ) -> Result<Done, RunFault>
     ensures run { (limit : Option ℕ) (known : Option (List ℕ)) → IsWithin limit whole.refused
-        → StandsForKnown plan.now.fields plan.now.query known whole
+        → StandsForKnown plan.now known whole
         → IsPartialRun result limit plan.now.fields plan.now.query known
         (O.contents out.old) (O.contents out.new) }
     ensures started { IfErr result (λ fault. fault ≢ RunFault.ThreadNotStarted) }

@@ -1,7 +1,8 @@
 //! Who finishes the groups of a report and writes its rows: the calling thread alone, or several.
 ghost use Rattle.std.specs.Prelude.{◌≡◌, ◌<◌, ℕ, IfOk, List};
 ghost use Rattle.tables.specs.Pieces.{IndexedPiece, IsCutInto};
-ghost use Rattle.tables.specs.Planned.{AreFittingUnder, IsResultUnder, StandsForUnder};
+ghost use Rattle.tables.specs.Partials.{IsResultOf, StandsFor};
+ghost use Rattle.tables.specs.Planned.{AreFittingUnder};
 ghost use Rattle.tables.specs.Sound.{IsSoundUnder};
 ghost use Rattle.report.specs.Report.{report_of};
 
@@ -30,8 +31,8 @@ pub(crate) trait ReportExecutor {
         requires sound { IsSoundUnder plan.now whole }
         ensures fit { IfOk result (λ groups. AreFittingUnder plan.now groups.found) }
         ensures whole { IfOk result (λ groups. (input : List ℕ) (pieces : List IndexedPiece)
-            → StandsForUnder plan.now whole pieces → IsCutInto input pieces
-            → IsResultUnder plan.now groups input) };
+            → StandsFor plan.now whole pieces → IsCutInto input pieces
+            → IsResultOf plan.now groups input) };
 
     /// Gives back the memory of groups that have been written.
     fn give_back(&self, alloc: Global, groups: Groups)

@@ -4,7 +4,7 @@ ghost use Rattle.tables.specs.Partials.{StandsForInput};
 ghost use Rattle.tables.specs.Sound.{IsSoundUnder};
 ghost use Rattle.semantics.specs.Run.{IsRun, IsWithin, refusals, report};
 ghost use Rattle.report.specs.Report.{refusals_of};
-ghost use Rattle.jlreport_engine.specs.Run.{StandsForKnown};
+ghost use Rattle.jlreport_engine.specs.Inside.Run.{StandsForKnown};
 
 use crate::reporting::ReportExecutor;
 use crate::seeding::random_seed;
@@ -124,7 +124,7 @@ pub(crate) fn write_whole<X: ReportExecutor, O: Write, E: Write>(
     requires ready { X.ready executor.now }
     requires sound { IsSoundUnder plan.now whole }
     ensures run { (limit : Option ℕ) (known : Option (List ℕ)) → IsWithin limit whole.refused
-        → StandsForKnown plan.now.fields plan.now.query known whole
+        → StandsForKnown plan.now known whole
         → IsRun result limit plan.now.fields plan.now.query known
         (O.contents out.old) (O.contents out.new) (E.contents err.old) (E.contents err.new) }
     ensures started { IfErr result (λ fault. fault ≢ RunFault.ThreadNotStarted) }
@@ -167,10 +167,10 @@ fn texts_of<X: ReportExecutor>(
     requires ready { X.ready executor.now }
     requires sound { IsSoundUnder plan.now partial }
     ensures report { IfOk result (λ texts. (input : List ℕ)
-        → StandsForInput plan.now.fields plan.now.query partial input
+        → StandsForInput plan.now partial input
         → texts.report.items ≡ report plan.now.fields plan.now.query input) }
     ensures refused { IfOk result (λ texts. (input : List ℕ)
-        → StandsForInput plan.now.fields plan.now.query partial input
+        → StandsForInput plan.now partial input
         → refusals_of plan.now.fields texts.groups.refused ≡ refusals plan.now.fields input) }
 {
     let groups = executor.groups(plan, partial)?;

@@ -3,7 +3,7 @@ ghost use Rattle.std.specs.Prelude.{◌<◌, IfErr, IfOk, OnErr, OnOk, length, t
 ghost use Rattle.std.specs.Io.KnownBytes.{Appends};
 ghost use Rattle.semantics.specs.Run.{AppendsBeginning};
 ghost use Rattle.report.specs.Report.{refusals_of};
-ghost use Rattle.jlreport_engine.specs.Written.{HasRoomFor, LeavesWritten, Sends};
+ghost use Rattle.jlreport_engine.specs.Inside.Written.{HasRoomFor, LeavesWritten, Sends};
 
 use lines::LineFault;
 use report::{push_refused_line, refused_line_room};

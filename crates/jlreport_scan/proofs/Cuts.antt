@@ -12,7 +12,7 @@ use Rattle.lines.specs.declared.pieces.Piece.{Piece}
 use Rattle.semantics.specs.Lines.{line_feed, lines}
 use Rattle.lines.specs.Pieces.{AllButLast, AreConsecutive, AreWholeLines, EndsInFeed, IsStop, after_feed, at_end, bytes_of}
 use Rattle.tables.specs.Pieces.{IndexedPiece, IsCutInto, all_lines, joined_bytes}
-use Rattle.tables.specs.Denotations.{indexed_pieces, indexed_pieces_from, no_bytes, with_index}
+use Rattle.tables.specs.Pieces.{indexed_pieces, indexed_pieces_from, no_bytes, with_index}
 use Rattle.tables.specs.Partials.{one_piece}
 
 -- ---- how many there are

@@ -14,16 +14,17 @@ use Rattle.lines.specs.Rounds.{HasMoved, RoundsState}
 use Rattle.lines.specs.Clip.{clip_lines}
 use Rattle.lines.proofs.Fronts.{refused-whole_lines}
 use Rattle.lines.proofs.Clips.{refused-clip}
-use Rattle.semantics.specs.Syntax.{TreeForm}
 use Rattle.tables.specs.Partials.{StandsFor, StandsForInput, whole_piece}
 use Rattle.tables.specs.States.{PartialState}
 use Rattle.tables.proofs.Following.{one-piece}
-use Rattle.jlreport_scan.specs.Pieces.{StandsBehind, StandsForRounds}
+use Rattle.jlreport_scan.specs.Inside.Pieces.{StandsBehind, StandsForRounds}
 use Rattle.jlreport_scan.specs.Gathered.{IsGather, IsWhole}
-use Rattle.jlreport_scan.specs.Faults.{IsWant, Refuses, Stops}
+use Rattle.jlreport_scan.specs.Inside.Faults.{IsWant, Refuses}
+use Rattle.jlreport_scan.specs.Faults.{Stops}
 use Rattle.jlreport_scan.specs.declared.fault.GatherFault.{GatherFault}
 use Rattle.jlreport_scan.specs.declared.fault.GatherFault.TheVariants.{Reading, OutOfMemory, ThreadNotStarted, TooManyRefused}
 use Rattle.jlreport_scan.proofs.Tallies.{length-lines, lines-of-input, refused-of-input}
+use Rattle.query_plan.specs.Planned.{PlannedQuery}
 
 -- ---- whole lines
 
@@ -84,27 +85,27 @@ end-after bytes new last (inl feed) = inl (inr (feed-behind bytes new.round feed
 end-after bytes new last (inr over) = inr (last over)
 
 -- so does what stands for the front and the rest as one piece
-pub behind-as_one : (fields : List Field) (q : TreeForm) (partial sum : PartialState) (rest : List ℕ)
-    → ((front : List ℕ) → StandsForInput fields q partial front → AreWholeLines front → StandsFor fields q sum (whole_piece (front ++ rest))) → StandsBehind fields q partial rest sum
-behind-as_one fields q partial sum rest as_one = record { behind = λ front given whole. record { pieces = whole_piece (front ++ rest); stands = as_one front given whole; cut = one-piece (front ++ rest) } }
+pub behind-as_one : (plan : PlannedQuery) (partial sum : PartialState) (rest : List ℕ)
+    → ((front : List ℕ) → StandsForInput plan partial front → AreWholeLines front → StandsFor plan sum (whole_piece (front ++ rest))) → StandsBehind plan partial rest sum
+behind-as_one plan partial sum rest as_one = record { behind = λ front given whole. record { pieces = whole_piece (front ++ rest); stands = as_one front given whole; cut = one-piece (front ++ rest) } }
 
-module _ {R : Type 0} (fields : List Field) (q : TreeForm) (known : Option (List ℕ)) (limit : ℕ) (old new : RoundsState R) (found : Result Bool ReadFault) (partial sum : PartialState)
-    (s : StandsForRounds fields q known limit old partial) (moved : HasMoved old found new) (is : found ≡ Ok true) where
+module _ {R : Type 0} (plan : PlannedQuery) (known : Option (List ℕ)) (limit : ℕ) (old new : RoundsState R) (found : Result Bool ReadFault) (partial sum : PartialState)
+    (s : StandsForRounds plan known limit old partial) (moved : HasMoved old found new) (is : found ≡ Ok true) where
   -- what stands for the round behind the rounds before it stands for all of them
-  all-rounds : StandsBehind fields q partial new.round sum → StandsForInput fields q sum (s.bytes ++ new.round)
+  all-rounds : StandsBehind plan partial new.round sum → StandsForInput plan sum (s.bytes ++ new.round)
   all-rounds behind = behind.behind s.bytes s.stands (whole-before s.bytes old new found moved is s.ends)
 
   -- as many lines are refused as before and in the round
-  pub refused-behind : StandsBehind fields q partial new.round sum → sum.refused ≡ partial.refused + length (refused_lines fields new.round)
+  pub refused-behind : StandsBehind plan partial new.round sum → sum.refused ≡ partial.refused + length (refused_lines plan.fields new.round)
   refused-behind behind =
       omega (
         arith,
-        refused-of-input fields q sum (s.bytes ++ new.round) (all-rounds behind),
-        refused-of-input fields q partial s.bytes s.stands,
-        refused-both fields s.bytes new.round (whole-before s.bytes old new found moved is s.ends),
+        refused-of-input plan sum (s.bytes ++ new.round) (all-rounds behind),
+        refused-of-input plan partial s.bytes s.stands,
+        refused-both plan.fields s.bytes new.round (whole-before s.bytes old new found moved is s.ends),
       )
 
-  pub next-behind : StandsBehind fields q partial new.round sum → sum.refused ≤ limit → StandsForRounds fields q known limit new sum
+  pub next-behind : StandsBehind plan partial new.round sum → sum.refused ≤ limit → StandsForRounds plan known limit new sum
   next-behind behind few =
       let given = moved.round is in
       record {
@@ -117,10 +118,10 @@ module _ {R : Type 0} (fields : List Field) (q : TreeForm) (known : Option (List
       }
 
 -- whose bytes are handed out, the rounds are the same
-pub handed-out : {R : Type 0} (fields : List Field) (q : TreeForm) (known : Option (List ℕ)) (limit : ℕ) (rounds rest : RoundsState R) (partial : PartialState)
-    → rest ≡ record rounds { round = [] } → StandsForRounds fields q known limit rounds partial → StandsForRounds fields q known limit rest partial
-handed-out {R = R} fields q known limit rounds rest partial e s =
-    subst (λ (r : RoundsState R). StandsForRounds fields q known limit r partial) (sym e)
+pub handed-out : {R : Type 0} (plan : PlannedQuery) (known : Option (List ℕ)) (limit : ℕ) (rounds rest : RoundsState R) (partial : PartialState)
+    → rest ≡ record rounds { round = [] } → StandsForRounds plan known limit rounds partial → StandsForRounds plan known limit rest partial
+handed-out {R = R} plan known limit rounds rest partial e s =
+    subst (λ (r : RoundsState R). StandsForRounds plan known limit r partial) (sym e)
     record { bytes = s.bytes; stands = s.stands; left = s.left; count = s.count; ends = s.ends; within = s.within }
 
 -- with each move there is less to give, or none was found
@@ -130,47 +131,47 @@ less-left old new true moved = let given = moved.round refl in let g = given.giv
 less-left old new false moved = let g = (moved.none refl).given in omega (arith, g)
 
 -- before the first round
-pub no-round : {R : Type 0} (fields : List Field) (q : TreeForm) (known : Option (List ℕ)) (limit : ℕ) (rounds : RoundsState R) (partial : PartialState)
-    → rounds.left ≡ option_map clip_lines known → rounds.given ≡ 0 → StandsFor fields q partial [] → StandsForRounds fields q known limit rounds partial
-no-round fields q known limit rounds partial left given stands =
+pub no-round : {R : Type 0} (plan : PlannedQuery) (known : Option (List ℕ)) (limit : ℕ) (rounds : RoundsState R) (partial : PartialState)
+    → rounds.left ≡ option_map clip_lines known → rounds.given ≡ 0 → StandsFor plan partial [] → StandsForRounds plan known limit rounds partial
+no-round plan known limit rounds partial left given stands =
     record {
       bytes = [];
       stands = record { pieces = []; stands = stands; cut = record { in_order = λ k lt. absurd (omega (arith, lt)); joined = refl; feeds = tt } };
       left = subst (λ l. Consumes (option_map clip_lines known) l []) (sym left) (Consumes-nil (option_map clip_lines known));
       count = given;
       ends = inl (inl refl);
-      within = (let r = stands.refused in omega (arith, r));
+      within = (let r : partial.refused ≡ 0 = ap (λ (p : PartialState). p.refused) stands in omega (arith, r));
     }
 
 -- where no round is left, the result is over all
-pub no-more : {R : Type 0} (fields : List Field) (q : TreeForm) (known : Option (List ℕ)) (limit : ℕ) (old new : RoundsState R) (found : Result Bool ReadFault) (partial : PartialState)
-    → StandsForRounds fields q known limit old partial → HasMoved old found new → found ≡ Ok false → IsWhole fields q known partial
-no-more fields q known limit old new found partial s moved is =
+pub no-more : {R : Type 0} (plan : PlannedQuery) (known : Option (List ℕ)) (limit : ℕ) (old new : RoundsState R) (found : Result Bool ReadFault) (partial : PartialState)
+    → StandsForRounds plan known limit old partial → HasMoved old found new → found ≡ Ok false → IsWhole plan known partial
+no-more plan known limit old new found partial s moved is =
     record { bytes = s.bytes; stands = s.stands; clipped = at-end known old.left s.bytes s.left (moved.none is).left }
 
 -- ---- what is asked of a round
 
 -- the rounds before it are whole lines
-pub front-before : {R : Type 0} (fields : List Field) (q : TreeForm) (known : Option (List ℕ)) (limit : ℕ) (old new : RoundsState R) (found : Result Bool ReadFault) (partial : PartialState)
-    → StandsForRounds fields q known limit old partial → HasMoved old found new → found ≡ Ok true → (front : List ℕ) × StandsForInput fields q partial front × AreWholeLines front
-front-before fields q known limit old new found partial s moved is = (s.bytes, s.stands, whole-before s.bytes old new found moved is s.ends)
+pub front-before : {R : Type 0} (plan : PlannedQuery) (known : Option (List ℕ)) (limit : ℕ) (old new : RoundsState R) (found : Result Bool ReadFault) (partial : PartialState)
+    → StandsForRounds plan known limit old partial → HasMoved old found new → found ≡ Ok true → (front : List ℕ) × StandsForInput plan partial front × AreWholeLines front
+front-before plan known limit old new found partial s moved is = (s.bytes, s.stands, whole-before s.bytes old new found moved is s.ends)
 
 -- with its bytes, as many as the lines so far, it is short
-pub short-round : {R : Type 0} (fields : List Field) (q : TreeForm) (known : Option (List ℕ)) (limit : ℕ) (old new : RoundsState R) (found : Result Bool ReadFault) (partial : PartialState)
-    → StandsForRounds fields q known limit old partial → HasMoved old found new → found ≡ Ok true → partial.lines + length new.round < 2 ^ 63
-short-round fields q known limit old new found partial s moved is =
+pub short-round : {R : Type 0} (plan : PlannedQuery) (known : Option (List ℕ)) (limit : ℕ) (old new : RoundsState R) (found : Result Bool ReadFault) (partial : PartialState)
+    → StandsForRounds plan known limit old partial → HasMoved old found new → found ≡ Ok true → partial.lines + length new.round < 2 ^ 63
+short-round plan known limit old new found partial s moved is =
     let c = s.count in
     let g = (moved.round is).given in
     let m = moved.limit in
-    omega (arith, c, g, m, lines-of-input fields q partial s.bytes s.stands, length-lines s.bytes)
+    omega (arith, c, g, m, lines-of-input plan partial s.bytes s.stands, length-lines s.bytes)
 
-pub few-behind : {R : Type 0} (fields : List Field) (q : TreeForm) (known : Option (List ℕ)) (limit : ℕ) (old new : RoundsState R) (found : Result Bool ReadFault) (partial : PartialState)
-    → StandsForRounds fields q known limit old partial → HasMoved old found new → found ≡ Ok true → partial.lines + length (lines new.round) < 2 ^ 63
-few-behind fields q known limit old new found partial s moved is =
+pub few-behind : {R : Type 0} (plan : PlannedQuery) (known : Option (List ℕ)) (limit : ℕ) (old new : RoundsState R) (found : Result Bool ReadFault) (partial : PartialState)
+    → StandsForRounds plan known limit old partial → HasMoved old found new → found ≡ Ok true → partial.lines + length (lines new.round) < 2 ^ 63
+few-behind plan known limit old new found partial s moved is =
     let c = s.count in
     let g = (moved.round is).given in
     let m = moved.limit in
-    omega (arith, c, g, m, lines-of-input fields q partial s.bytes s.stands, length-lines s.bytes, length-lines new.round)
+    omega (arith, c, g, m, lines-of-input plan partial s.bytes s.stands, length-lines s.bytes, length-lines new.round)
 
 -- ---- where a round is over the limit
 
@@ -178,34 +179,34 @@ above : (known : Option (List ℕ)) (count : List ℕ → ℕ) (most so_far : �
 above None count most so_far l few = tt
 above (Some input) count most so_far l few = omega (arith, l, few)
 
-stops-there : {R : Type 0} (fields : List Field) (q : TreeForm) (known : Option (List ℕ)) (limit : ℕ) (most : Option ℕ) (old new : RoundsState R) (found : Result Bool ReadFault) (partial : PartialState) (fault : GatherFault)
-    → StandsForRounds fields q known limit old partial → HasMoved old found new → found ≡ Ok true
-    → IsWant fault ⊎ Refuses fault most (partial.refused + length (refused_lines fields new.round)) → Stops fault most fields known
-stops-there fields q known limit most old new found partial fault s moved is (inl (inl e)) = subst (λ (f : GatherFault). Stops f most fields known) (sym e) tt
-stops-there fields q known limit most old new found partial fault s moved is (inl (inr e)) = subst (λ (f : GatherFault). Stops f most fields known) (sym e) tt
-stops-there fields q known limit most old new found partial Reading s moved is (inr h) = absurd h
-stops-there fields q known limit most old new found partial OutOfMemory s moved is (inr h) = absurd h
-stops-there fields q known limit most old new found partial ThreadNotStarted s moved is (inr h) = absurd h
-stops-there fields q known limit most old new found partial (TooManyRefused n) s moved is (inr h) =
+stops-there : {R : Type 0} (plan : PlannedQuery) (known : Option (List ℕ)) (limit : ℕ) (most : Option ℕ) (old new : RoundsState R) (found : Result Bool ReadFault) (partial : PartialState) (fault : GatherFault)
+    → StandsForRounds plan known limit old partial → HasMoved old found new → found ≡ Ok true
+    → IsWant fault ⊎ Refuses fault most (partial.refused + length (refused_lines plan.fields new.round)) → Stops fault most plan.fields known
+stops-there plan known limit most old new found partial fault s moved is (inl (inl e)) = subst (λ (f : GatherFault). Stops f most plan.fields known) (sym e) tt
+stops-there plan known limit most old new found partial fault s moved is (inl (inr e)) = subst (λ (f : GatherFault). Stops f most plan.fields known) (sym e) tt
+stops-there plan known limit most old new found partial Reading s moved is (inr h) = absurd h
+stops-there plan known limit most old new found partial OutOfMemory s moved is (inr h) = absurd h
+stops-there plan known limit most old new found partial ThreadNotStarted s moved is (inr h) = absurd h
+stops-there plan known limit most old new found partial (TooManyRefused n) s moved is (inr h) =
     let given = moved.round is in
     let whole = whole-before s.bytes old new found moved is s.ends in
-    let so_far = length (refused_lines fields (s.bytes ++ new.round)) in
+    let so_far = length (refused_lines plan.fields (s.bytes ++ new.round)) in
     let left = Consumes-trans (option_map clip_lines known) old.left new.left s.bytes new.round s.left given.left in
-    let more : n < so_far = omega (arith, h.1, refused-of-input fields q partial s.bytes s.stands, refused-both fields s.bytes new.round whole) in
-    (h.0, above known (λ input. length (refused_lines fields input)) n so_far more (refused-so_far fields known new.left (s.bytes ++ new.round) left (end-after s.bytes new given.last given.feed)))
+    let more : n < so_far = omega (arith, h.1, refused-of-input plan partial s.bytes s.stands, refused-both plan.fields s.bytes new.round whole) in
+    (h.0, above known (λ input. length (refused_lines plan.fields input)) n so_far more (refused-so_far plan.fields known new.left (s.bytes ++ new.round) left (end-after s.bytes new given.last given.feed)))
 
-pub round-stops : {R : Type 0} (fields : List Field) (q : TreeForm) (known : Option (List ℕ)) (limit : ℕ) (most : Option ℕ) (old new : RoundsState R) (found : Result Bool ReadFault) (partial : PartialState)
-    (before : ℕ) (round : List ℕ) (fault : GatherFault) → StandsForRounds fields q known limit old partial → HasMoved old found new → found ≡ Ok true → before ≡ partial.refused → round ≡ new.round
-    → IsWant fault ⊎ Refuses fault most (before + length (refused_lines fields round)) → Stops fault most fields known
-round-stops fields q known limit most old new found partial before round fault s moved is e f h =
-    let there = subst (λ (bytes : List ℕ). IsWant fault ⊎ Refuses fault most (before + length (refused_lines fields bytes))) f h in
-    stops-there fields q known limit most old new found partial fault s moved is
-    (subst (λ (n : ℕ). IsWant fault ⊎ Refuses fault most (n + length (refused_lines fields new.round))) e there)
+pub round-stops : {R : Type 0} (plan : PlannedQuery) (known : Option (List ℕ)) (limit : ℕ) (most : Option ℕ) (old new : RoundsState R) (found : Result Bool ReadFault) (partial : PartialState)
+    (before : ℕ) (round : List ℕ) (fault : GatherFault) → StandsForRounds plan known limit old partial → HasMoved old found new → found ≡ Ok true → before ≡ partial.refused → round ≡ new.round
+    → IsWant fault ⊎ Refuses fault most (before + length (refused_lines plan.fields round)) → Stops fault most plan.fields known
+round-stops plan known limit most old new found partial before round fault s moved is e f h =
+    let there = subst (λ (bytes : List ℕ). IsWant fault ⊎ Refuses fault most (before + length (refused_lines plan.fields bytes))) f h in
+    stops-there plan known limit most old new found partial fault s moved is
+    (subst (λ (n : ℕ). IsWant fault ⊎ Refuses fault most (n + length (refused_lines plan.fields new.round))) e there)
 
 -- ---- what gathering answers
 
 -- a fault, which says of the input what it says
-pub gather-fault : (r : Result PartialState GatherFault) (limit : Option ℕ) (fields : List Field) (q : TreeForm) (known : Option (List ℕ)) (P : GatherFault → Type 0)
-    → IsErrAnd r P → ((fault : GatherFault) → P fault → Stops fault limit fields known) → IsGather r limit fields q known
-gather-fault (Ok partial) limit fields q known P h stops = absurd h
-gather-fault (Err fault) limit fields q known P h stops = record { is_whole = tt; is_within = tt; stops = stops fault h }
+pub gather-fault : (r : Result PartialState GatherFault) (limit : Option ℕ) (plan : PlannedQuery) (known : Option (List ℕ)) (P : GatherFault → Type 0)
+    → IsErrAnd r P → ((fault : GatherFault) → P fault → Stops fault limit plan.fields known) → IsGather r limit plan known
+gather-fault (Ok partial) limit plan known P h stops = absurd h
+gather-fault (Err fault) limit plan known P h stops = record { is_whole = tt; is_within = tt; stops = stops fault h }

@@ -10,11 +10,11 @@ use Rattle.semantics.specs.Columns.{Field}
 use Rattle.semantics.specs.declared.line_fault.LineFault.{LineFault}
 use Rattle.semantics.specs.Lines.{line_feed, lines, without_empty_last}
 use Rattle.semantics.specs.Records.{decode_line, answers, refused_lines}
-use Rattle.semantics.specs.Syntax.{TreeForm}
 use Rattle.tables.specs.Partials.{StandsForInput}
 use Rattle.tables.specs.Pieces.{IndexedPiece, all_lines, refused_lines_within}
 use Rattle.tables.specs.States.{PartialState}
 use Rattle.tables.proofs.Cutting.{cut-lines}
+use Rattle.query_plan.specs.Planned.{PlannedQuery}
 
 -- ---- an input has at most as many lines as bytes
 
@@ -91,8 +91,8 @@ few-refused fields input =
 
 -- ---- the numbers of a result over an input
 
-pub lines-of-input : (fields : List Field) (q : TreeForm) (partial : PartialState) (input : List ℕ) → StandsForInput fields q partial input → partial.lines ≡ length (lines input)
-lines-of-input fields q partial input s = s.stands.lines ∙ ap length (cut-lines s.pieces s.cut.feeds ∙ ap lines s.cut.joined)
+pub lines-of-input : (plan : PlannedQuery) (partial : PartialState) (input : List ℕ) → StandsForInput plan partial input → partial.lines ≡ length (lines input)
+lines-of-input plan partial input s = ap (λ (p : PartialState). p.lines) s.stands ∙ ap length (cut-lines s.pieces s.cut.feeds ∙ ap lines s.cut.joined)
 
-pub refused-of-input : (fields : List Field) (q : TreeForm) (partial : PartialState) (input : List ℕ) → StandsForInput fields q partial input → partial.refused ≡ length (refused_lines fields input)
-refused-of-input fields q partial input s = s.stands.refused ∙ refused-counted fields s.pieces input (cut-lines s.pieces s.cut.feeds ∙ ap lines s.cut.joined)
+pub refused-of-input : (plan : PlannedQuery) (partial : PartialState) (input : List ℕ) → StandsForInput plan partial input → partial.refused ≡ length (refused_lines plan.fields input)
+refused-of-input plan partial input s = ap (λ (p : PartialState). p.refused) s.stands ∙ refused-counted plan.fields s.pieces input (cut-lines s.pieces s.cut.feeds ∙ ap lines s.cut.joined)

@@ -1,5 +1,5 @@
 -- How the gathering of a result ends without one.
-use Rattle.std.specs.Prelude.{◌≡◌, ◌⊎◌, ◌<◌, ⊤, ℕ, List, Option, Some, IfSome, length}
+use Rattle.std.specs.Prelude.{◌≡◌, ◌<◌, ⊤, ℕ, List, Option, Some, IfSome, length}
 use Rattle.semantics.specs.Columns.{Field}
 use Rattle.semantics.specs.Records.{refused_lines}
 use Rattle.pool.specs.declared.laws.PoolFault.{PoolFault}
@@ -15,18 +15,7 @@ Stops OutOfMemory limit fields input = ⊤
 Stops ThreadNotStarted limit fields input = ⊤
 Stops (TooManyRefused most) limit fields input = (limit ≡ Some most) × IfSome input (λ bytes. most < length (refused_lines fields bytes))
 
--- ---- in the code
-
 -- the fault that a pool's fault is
 abbrev pub fault_of_pool : PoolFault → GatherFault
 fault_of_pool pool.OutOfMemory = OutOfMemory
 fault_of_pool pool.ThreadNotStarted = ThreadNotStarted
-
--- memory or a thread was refused
-abbrev pub IsWant : GatherFault → Type 0
-IsWant fault = (fault ≡ OutOfMemory) ⊎ (fault ≡ ThreadNotStarted)
-
--- the fault says that more lines are refused than the limit
-abbrev pub Refuses : GatherFault → Option ℕ → ℕ → Type 0
-Refuses (TooManyRefused most) limit count = (limit ≡ Some most) × (most < count)
-Refuses fault limit count = ⊥

@@ -1,4 +1,4 @@
 pub mod Faults
 pub mod RunFaults
 pub mod Gathered
-pub mod Pieces
+pub mod Inside

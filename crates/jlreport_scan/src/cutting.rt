@@ -2,7 +2,7 @@
 ghost use Rattle.std.specs.Prelude.{◌≡◌, ◌≤◌, ◌<◌, ◌^◌, All, IfOk, length};
 ghost use Rattle.semantics.specs.Lines.{lines};
 ghost use Rattle.tables.specs.Pieces.{IsCutInto, all_lines};
-ghost use Rattle.tables.specs.Denotations.{indexed_pieces};
+ghost use Rattle.tables.specs.Pieces.{indexed_pieces};
 
 use lines::{Piece, cut};
 use std::alloc::{AllocError, Global};

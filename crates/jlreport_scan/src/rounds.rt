@@ -5,8 +5,9 @@ ghost use Rattle.semantics.specs.Records.{refused_lines};
 ghost use Rattle.lines.specs.Pieces.{AreWholeLines};
 ghost use Rattle.tables.specs.Partials.{StandsForInput};
 ghost use Rattle.jlreport_scan.specs.Gathered.{IsGather, limit_number};
-ghost use Rattle.jlreport_scan.specs.Faults.{IsWant, Refuses, Stops};
-ghost use Rattle.jlreport_scan.specs.Pieces.{IsAheadUnder, IsTaken, StandsBehind, most_turns};
+ghost use Rattle.jlreport_scan.specs.Inside.Faults.{IsWant, Refuses};
+ghost use Rattle.jlreport_scan.specs.Faults.{Stops};
+ghost use Rattle.jlreport_scan.specs.Inside.Pieces.{IsAheadUnder, IsTaken, StandsBehind, most_turns};
 
 use crate::fault::GatherFault;
 use crate::working::{RoundOutcome, Scan, check_limit, work_on_round};
@@ -43,7 +44,7 @@ pub fn gather_alone<R: Read + Drop>(
     options: Options,
     reader: R,
 ) -> Result<Partial, GatherFault>
-    ensures gather { IsGather result options.max_refused plan.now.fields plan.now.query
+    ensures gather { IsGather result options.max_refused plan.now
         (R.remaining reader) }
     ensures started { IfErr result (λ fault. fault ≢ GatherFault.ThreadNotStarted) }
 {
@@ -58,7 +59,7 @@ fn gather_by<X: Executor, R: Read + Drop>(
     options: Options,
     reader: R,
 ) -> Result<Partial, GatherFault>
-    ensures gather { IsGather result options.max_refused plan.now.fields plan.now.query
+    ensures gather { IsGather result options.max_refused plan.now
         (R.remaining reader) }
     ensures started { IfErr result (λ fault. fault ≢ GatherFault.ThreadNotStarted) }
 {
@@ -93,7 +94,7 @@ pub fn gather<R: Read + Drop + Send, H: Threads + Wait + Sync>(
     seed: HashSeed,
     reader: R,
 ) -> Result<Partial, GatherFault>
-    ensures gather { IsGather result options.max_refused plan.now.fields plan.now.query
+    ensures gather { IsGather result options.max_refused plan.now
         (R.remaining reader) }
     ensures started { options.workers ≡ 1
         → IfErr result (λ fault. fault ≢ GatherFault.ThreadNotStarted) }
@@ -120,7 +121,7 @@ fn gather_reading_ahead<L: Ledger + Send + Sync, R: Read + Drop + Send, H: Threa
 ) -> Result<Partial, GatherFault>
     requires name { blank.name ≡ L.name }
     requires parts { (blank.parts ≡ L.parts) × (L.parts ≡ options.workers) }
-    ensures { IsGather result options.max_refused plan.now.fields plan.now.query
+    ensures { IsGather result options.max_refused plan.now
         (R.remaining reader) }
 {
     let (book, shares) = Book::<L>::new(alloc, blank, options.workers())?;
@@ -262,14 +263,13 @@ fn work_and_read_on<L: Ledger + Send + Sync, R: Read + Drop + Send, H: Threads +
     shares: Vec<Share<L>>,
 ) -> RoundAndRead<L, R>
     requires front { (front : List ℕ)
-        × StandsForInput scan.now.plan.now.fields scan.now.plan.now.query before front
+        × StandsForInput scan.now.plan.now before front
         × AreWholeLines front }
     requires short { before.lines + length round.now.bytes < 2 ^ 63 }
     requires hands { (1 ≤ vec_len shares) × (vec_len shares ≤ 64) }
     requires reported { All (λ share. share.sum ≤ before.refused) shares.items }
     ensures read { HasMoved rounds result.found result.rounds }
-    ensures whole { IfOk result.outcome (λ r. StandsBehind scan.now.plan.now.fields
-        scan.now.plan.now.query before round.now.bytes r.whole) }
+    ensures whole { IfOk result.outcome (λ r. StandsBehind scan.now.plan.now before round.now.bytes r.whole) }
     ensures limit { IfOk result.outcome (λ r.
         r.whole.refused ≤ limit_number scan.now.options.max_refused) }
     ensures taken { IfOk result.outcome (λ r.
@@ -297,7 +297,7 @@ fn work_and_read_on<L: Ledger + Send + Sync, R: Read + Drop + Send, H: Threads +
         move || read_on(rounds, demand),
         move || -> Result<RoundOutcome<L>, GatherFault>
             requires front { (front : List ℕ)
-                × StandsForInput scan.now.plan.now.fields scan.now.plan.now.query before front
+                × StandsForInput scan.now.plan.now before front
                 × AreWholeLines front }
             requires short { before.lines + length round.now.bytes < 2 ^ 63 }
             requires hands { (1 ≤ vec_len shares) × (vec_len shares ≤ 64) }

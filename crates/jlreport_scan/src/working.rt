@@ -4,9 +4,9 @@ ghost use Rattle.semantics.specs.Records.{refused_lines};
 ghost use Rattle.lines.specs.Pieces.{AreWholeLines};
 ghost use Rattle.pool.specs.declared.laws.Outcome.TheVariants as Outcome;
 ghost use Rattle.tables.specs.Partials.{StandsForInput};
-ghost use Rattle.jlreport_scan.specs.Pieces.{IsTaken, IsUnder, StandsBehind};
+ghost use Rattle.jlreport_scan.specs.Inside.Pieces.{IsTaken, IsUnder, StandsBehind};
 ghost use Rattle.jlreport_scan.specs.Gathered.{limit_number};
-ghost use Rattle.jlreport_scan.specs.Faults.{IsWant, Refuses};
+ghost use Rattle.jlreport_scan.specs.Inside.Faults.{IsWant, Refuses};
 
 use crate::cutting::pieces_of;
 use crate::fault::GatherFault;
@@ -69,13 +69,12 @@ pub(crate) fn work_on_round<L: Ledger + Send + Sync, H: Threads + Wait + Sync>(
     shares: Vec<Share<L>>,
 ) -> Result<RoundOutcome<L>, GatherFault>
     requires front { (front : List ℕ)
-        × StandsForInput scan.now.plan.now.fields scan.now.plan.now.query before front
+        × StandsForInput scan.now.plan.now before front
         × AreWholeLines front }
     requires short { before.lines + length round.now < 2 ^ 63 }
     requires hands { (1 ≤ vec_len shares) × (vec_len shares ≤ 64) }
     requires reported { All (λ share. share.sum ≤ before.refused) shares.items }
-    ensures whole { IfOk result (λ r. StandsBehind scan.now.plan.now.fields
-        scan.now.plan.now.query before round.now r.whole) }
+    ensures whole { IfOk result (λ r. StandsBehind scan.now.plan.now before round.now r.whole) }
     ensures limit { IfOk result (λ r.
         r.whole.refused ≤ limit_number scan.now.options.max_refused) }
     ensures taken { IfOk result (λ r.

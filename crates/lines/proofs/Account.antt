@@ -5,7 +5,7 @@ use Rattle.std.specs.Io.KnownBytes.{Consumes, Keeps}
 use Rattle.std.specs.Prelude.{IsErrAnd}
 use Rattle.lines.specs.declared.fault.ReadFault.{ReadFault}
 use Rattle.lines.specs.declared.input.Input.{Input}
-use Rattle.lines.specs.Input.{HasAccount}
+use Rattle.lines.specs.Inside.Input.{HasAccount}
 use Rattle.lines.specs.Rounds.{HasRead}
 
 -- nothing is read

@@ -23,7 +23,7 @@ use Rattle.semantics.specs.declared.kind.Kind.{Kind}
 use Rattle.semantics.specs.declared.kind.Kind.TheVariants as kind
 use Rattle.semantics.specs.Values as datum
 use Rattle.semantics.specs.Records.{datum_taken}
-use Rattle.lines.specs.Members.{AreMembersAt, AreTaken, IsMemberAt, IsTakenAt}
+use Rattle.lines.specs.Inside.Members.{AreMembersAt, AreTaken, IsMemberAt, IsTakenAt}
 use Rattle.lines.proofs.Lexing.{IsPlaced, lexed-end, lexed-whole, placed-closing, placed-empty, placed-end, placed-opening, placed-string, string-token}
 
 -- a column takes a value that is one token

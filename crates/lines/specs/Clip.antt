@@ -1,5 +1,5 @@
 -- An input whose lines are clipped: cut to a length. The law `clip_law` says what it is without a walk.
-use Rattle.std.specs.Prelude.{ℕ, ◌+◌, ◌==◌, nat_lt, List, [], ◌∷◌, if◌then◌else◌}
+use Rattle.std.specs.Prelude.{ℕ, ◌+◌, ◌==◌, nat_lt, List, ◌∷◌, if◌then◌else◌, []}
 use Rattle.std.specs.List.{slice_split}
 use Rattle.semantics.specs.Lines.{line_feed}
 use Rattle.semantics.specs.Records.{max_line_len}

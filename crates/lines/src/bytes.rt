@@ -3,7 +3,7 @@ ghost use Rattle.std.specs.Prelude.{◌≡◌, ◌≤◌, Ok, Some, IfSome, leng
 ghost use Rattle.serde_json.specs.Data.{Members, no_members, object};
 ghost use Rattle.serde_json.specs.Read.{read};
 ghost use Rattle.values.specs.Schema.{IsSchema, fields_of};
-ghost use Rattle.lines.specs.Members.{AreTaken};
+ghost use Rattle.lines.specs.Inside.Members.{AreTaken};
 ghost use Rattle.semantics.specs.Records.{Fits, max_line_len, decode_line};
 
 mod members;

@@ -2,8 +2,8 @@
 ghost use Rattle.std.specs.Prelude.{◌≡◌, ◌≢◌, ◌<◌, ◌≤◌, All, length, set, IfSome, MatchOption};
 ghost use Rattle.serde_json.specs.Data.{no_members};
 ghost use Rattle.values.specs.Schema.{IsSchema, fields_of};
-ghost use Rattle.lines.specs.Members.{AreTaken};
-ghost use Rattle.lines.specs.Naming.{IsPlaceOf, NoneHasName};
+ghost use Rattle.lines.specs.Inside.Members.{AreTaken};
+ghost use Rattle.lines.specs.Inside.Naming.{IsPlaceOf, NoneHasName};
 
 use crate::spare::Spare;
 use values::{Column, Value};

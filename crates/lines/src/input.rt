@@ -1,7 +1,7 @@
 //! A source, and the buffer that it is read into.
 ghost use Rattle.std.specs.Prelude.{◌≡◌, ◌+◌, ◌<◌, ◌≤◌, IfOk, OnOk};
 ghost use Rattle.lines.specs.Clip.{clipped_len};
-ghost use Rattle.lines.specs.Input.{ComesNear, GoesOn, HasAccount, HasAdded, HasBlock, IsReady, IsReadyFor};
+ghost use Rattle.lines.specs.Inside.Input.{ComesNear, GoesOn, HasAccount, HasAdded, HasBlock, IsReady, IsReadyFor};
 
 use crate::demand::Demand;
 use crate::fault::ReadFault;

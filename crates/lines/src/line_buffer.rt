@@ -69,7 +69,8 @@ fn copy_front(to: &mut [u8], from: &[u8])
 }
 
 impl LineBuffer {
-    ghost use Rattle.lines.specs.Holding.{GrowsWithin, IsHeld, IsWindow, KeepsFront, KeepsLeft, LetsGoLines, whole_lines};
+    ghost use Rattle.lines.specs.Inside.Holding.{GrowsWithin, IsWindow, KeepsFront, KeepsLeft, LetsGoLines};
+    ghost use Rattle.lines.specs.Holding.{IsHeld, whole_lines};
 
     /// A buffer without a byte, for rounds of at most `size` bytes.
     pub(crate) fn new(alloc: Global, size: usize) -> Result<LineBuffer, AllocError>

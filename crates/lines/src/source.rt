@@ -1,6 +1,6 @@
 //! A reader, and the account of what it answered.
 ghost use Rattle.std.specs.Prelude.{◌≡◌, ◌<◌, ◌^◌, false, IsErr, IsOk, IfOk, length, take};
-ghost use Rattle.lines.specs.Input.{HasGot};
+ghost use Rattle.lines.specs.Inside.Input.{HasGot};
 ghost use Rattle.lines.specs.Rounds.{HasCause, HasRead};
 
 use crate::fault::ReadFault;

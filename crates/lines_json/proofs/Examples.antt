@@ -8,7 +8,7 @@ use Rattle.json.specs.Lex.{Place, fresh, after_value, after_comma, after_key, ma
 use Rattle.json.specs.Json as json
 use Rattle.json.specs.Json.{value}
 use Rattle.serde_json.specs.Data.{Data, array, object, number, unsigned, no_items, item, no_members, member}
-use Rattle.lines_json.specs.Inside.{IsEscapeAt}
+use Rattle.lines_json.specs.Inside.Contents.{IsEscapeAt}
 use Rattle.lines_json.specs.Meant.{IsValue}
 use Rattle.lines_json.specs.Standing.{IsStringOf, IsTokenAt, IsValueAt, lexemes}
 

@@ -3,7 +3,7 @@ use Rattle.std.proofs.Common.{◌≡◌, ℕ, ◌+◌, ◌≤◌, true, false, c
 use Rattle.json.specs.Token.{bad, boolean, null}
 use Rattle.json.specs.Word.{ends_word, word}
 use Rattle.json.specs.Lex.{between, in_word, token, lex}
-use Rattle.lines_json.specs.Inside.{is_word_end}
+use Rattle.lines_json.specs.Inside.Contents.{is_word_end}
 use Rattle.lines_json.specs.Standing.{IsTokenAt}
 use Rattle.lines_json.proofs.Fronts.{one_byte, four_bytes}
 use Rattle.lines_json.proofs.WordEnds.{ends_word-at, word_ends}

@@ -6,7 +6,7 @@ use Rattle.json.specs.Json.{after_end_array, read_key, items, members, value}
 use Rattle.json.proofs.Grammar.{closed_array, left, skip_value-shorter, value_is}
 use Rattle.serde_json.specs.Data.{Num, Data, null, boolean, number, string, array, object, Items, no_items, item, Members, no_members, put}
 use Rattle.serde_json.specs.Read.{number_of, of_items, of_members}
-use Rattle.lines_json.specs.Inside.{AreItemsAt, AreMembersAt, IsNameAt}
+use Rattle.lines_json.specs.Inside.Contents.{AreItemsAt, AreMembersAt, IsNameAt}
 use Rattle.lines_json.specs.Meant.{IsValue}
 use Rattle.lines_json.specs.Standing.{IsStringOf, IsTokenAt, IsValueAt, lexemes}
 use Rattle.lines_json.proofs.Lexemes.{before_end, lexemes-operator, lexemes-string}

@@ -10,7 +10,7 @@ use Rattle.json.specs.Lex.{Lexeme, Mode, token, comma, colon, quote, backslash, 
 use Rattle.json.specs.Text.{content, plain}
 use Rattle.json.specs.Token.{Token, bad, begin_array, begin_object, boolean, end_array, end_object, null, number}
 use Rattle.json.specs.Word.{after_number, ends_word, head, is_operator, is_space, literal, number_before, word}
-use Rattle.lines_json.specs.Inside.{is_word_end}
+use Rattle.lines_json.specs.Inside.Contents.{is_word_end}
 use Rattle.lines_json.specs.Standing.{IsTokenAt, lexemes}
 use Rattle.lines_json.proofs.Lexemes.{before_end}
 use Rattle.lines_json.proofs.WordEnds.{head-drop}

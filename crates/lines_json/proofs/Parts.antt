@@ -8,7 +8,7 @@ use Rattle.json.specs.Text.{Within, code_unit, short_escape, is_high_surrogate, 
 use Rattle.json.specs.Word.{is_operator, is_space}
 use Rattle.json.specs.Lex.{quote, backslash, operator, space, other, Lexeme, Mode, in_escape, in_string, lex_byte, lex}
 use Rattle.json.specs.Run.{is_plain}
-use Rattle.lines_json.specs.Inside.{IsPart}
+use Rattle.lines_json.specs.Inside.Contents.{IsPart}
 
 -- ---- nothing, and one part behind another
 

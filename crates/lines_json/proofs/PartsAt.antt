@@ -8,7 +8,7 @@ use Rattle.std.specs.Str.{IsCharBoundary, IsUtf8}
 use Rattle.json.specs.Text.{Within, content, plain, after_backslash, after_high, after_u, is_high_surrogate, is_low_surrogate, prepend, surrogate_pair}
 use Rattle.json.specs.Lex.{Mode, in_escape, in_string}
 use Rattle.json.specs.Run.{is_plain}
-use Rattle.lines_json.specs.Inside.{IsEscapeAt, IsPart, IsPartAt, IsShortEscape, code_unit_at}
+use Rattle.lines_json.specs.Inside.Contents.{IsEscapeAt, IsPart, IsPartAt, IsShortEscape, code_unit_at}
 use Rattle.lines_json.specs.Standing.{IsStringOf}
 use Rattle.lines_json.proofs.Fronts.{four_bytes, one_byte}
 use Rattle.lines_json.proofs.Lexemes.{before_end, lex-closing_quote}

@@ -9,8 +9,8 @@ use Rattle.std.specs.List.{prefix_len}
 use Rattle.json.specs.Lex.{between, class, in_word, lex, lex_byte, operator, other, space, token}
 use Rattle.json.specs.Token.{number}
 use Rattle.json.specs.Word.{after_digits, after_number, ends_word, head, is_operator, is_space, word}
-use Rattle.lines_json.specs.Inside.{is_word_end}
-use Rattle.lines_json.specs.NumberParts.{IsNumberPart}
+use Rattle.lines_json.specs.Inside.Contents.{is_word_end}
+use Rattle.lines_json.specs.Inside.NumberParts.{IsNumberPart}
 use Rattle.lines_json.specs.Standing.{IsTokenAt}
 use Rattle.lines_json.proofs.WordEnds.{class_ends, ends_word-at, goes_on, head-drop, word_ends}
 

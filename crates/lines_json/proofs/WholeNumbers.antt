@@ -17,9 +17,9 @@ use Rattle.json.specs.Word.{after_digits, after_exponent, after_fraction, after_
 use Rattle.serde_json.specs.Data.{negative, unsigned}
 use Rattle.serde_json.specs.Find.{as_integer}
 use Rattle.serde_json.specs.Read.{number_of}
-use Rattle.lines_json.specs.NumberParts.{AreDigitsAt, IsNumberPart, after_unsigned}
+use Rattle.lines_json.specs.Inside.NumberParts.{AreDigitsAt, IsNumberPart, after_unsigned}
 use Rattle.lines_json.specs.Standing.{IsWholeNumberAt}
-use Rattle.lines_json.specs.Inside.{is_word_end}
+use Rattle.lines_json.specs.Inside.Contents.{is_word_end}
 use Rattle.lines_json.proofs.WordEnds.{class_ends, goes_on, head-drop}
 use Rattle.lines_json.proofs.Passed.{class-number, digits_passed, number-token, part-sign, part-then}
 use Rattle.lines_json.proofs.Signs.{number-behind_minus, number-no_minus}

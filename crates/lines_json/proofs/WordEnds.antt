@@ -4,7 +4,7 @@ use Rattle.std.proofs.lemmas.Bool.{ne_eqb, false≢true}
 use Rattle.std.proofs.lemmas.List.{get_or-drop}
 use Rattle.json.specs.Lex.{between, class, in_word, lex, operator, other, space}
 use Rattle.json.specs.Word.{ends_word, head, is_operator, is_space}
-use Rattle.lines_json.specs.Inside.{is_word_end}
+use Rattle.lines_json.specs.Inside.Contents.{is_word_end}
 
 -- the byte at a place stands at the front of the rest
 pub head-drop : (text : List ℕ) (at : ℕ) → head (drop at text) ≡ get_or text at 32

@@ -1,4 +1,3 @@
-pub mod Inside
 pub mod Meant
-pub mod NumberParts
 pub mod Standing
+pub mod Inside

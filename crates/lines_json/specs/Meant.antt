@@ -1,4 +1,4 @@
--- What stands in front of the tokens of a JSON text. Private calls alone speak of it.
+-- What stands in front of the tokens of a JSON text.
 use Rattle.std.specs.Prelude.{◌≡◌, ℕ, List, length, Option, Some}
 use Rattle.json.specs.Token.{Token}
 use Rattle.json.specs.Json.{items, members, value}

@@ -2,7 +2,7 @@
 ghost use Rattle.std.specs.Prelude.{◌≡◌, ◌+◌, ◌≤◌, drop, get_or, length};
 ghost use Rattle.std.specs.List.{prefix_len};
 ghost use Rattle.json.specs.Word.{is_space};
-ghost use Rattle.lines_json.specs.Inside.{is_word_end};
+ghost use Rattle.lines_json.specs.Inside.Contents.{is_word_end};
 ghost use Rattle.lines_json.specs.Standing.{lexemes};
 
 /// The byte at a place, and a space past the end.

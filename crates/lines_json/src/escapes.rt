@@ -3,7 +3,7 @@ ghost use Rattle.std.specs.Prelude.{◌≡◌, ◌+◌, ◌<◌, ◌≤◌, IfSo
 ghost use Rattle.std.specs.Char.{digit_value, encode_utf8, is_digit};
 ghost use Rattle.json.specs.Lex.{in_string};
 ghost use Rattle.json.specs.Text.{after_high, after_u, is_high_surrogate, is_low_surrogate, surrogate_pair};
-ghost use Rattle.lines_json.specs.Inside.{IsEscapeAt, IsPartAt, IsShortEscape, code_unit_at};
+ghost use Rattle.lines_json.specs.Inside.Contents.{IsEscapeAt, IsPartAt, IsShortEscape, code_unit_at};
 
 use crate::bytes::byte_at;
 

@@ -5,7 +5,7 @@ ghost use Rattle.std.specs.List.{prefix_len};
 ghost use Rattle.json.specs.Token.{number};
 ghost use Rattle.json.specs.Word.{after_digits, after_exponent, after_fraction, after_minus, after_number, after_sign, after_whole};
 ghost use Rattle.serde_json.specs.Read.{number_of};
-ghost use Rattle.lines_json.specs.NumberParts.{IsNumberPart};
+ghost use Rattle.lines_json.specs.Inside.NumberParts.{IsNumberPart};
 ghost use Rattle.lines_json.specs.Standing.{IsTokenAt, IsWholeNumberAt};
 
 mod short;

@@ -3,7 +3,7 @@ ghost use Rattle.std.specs.Prelude.{◌≡◌, ◌+◌, ◌<◌, ◌≤◌, leng
 ghost use Rattle.std.specs.List.{list_all};
 ghost use Rattle.std.specs.Simd.Lanes.{mask_l};
 ghost use Rattle.json.specs.Run.{is_plain, is_stop};
-ghost use Rattle.lines_json.specs.Inside.{IsPlainEnd};
+ghost use Rattle.lines_json.specs.Inside.Contents.{IsPlainEnd};
 
 use std::simd::prelude::*;
 

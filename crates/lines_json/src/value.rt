@@ -1,6 +1,6 @@
 //! Values, arrays and objects.
 ghost use Rattle.std.specs.Prelude.{◌≤◌, IfSome, length};
-ghost use Rattle.lines_json.specs.Inside.{AreItemsAt, AreMembersAt, IsNameAt};
+ghost use Rattle.lines_json.specs.Inside.Contents.{AreItemsAt, AreMembersAt, IsNameAt};
 ghost use Rattle.lines_json.specs.Standing.{IsValueAt};
 
 use crate::bytes::{byte_at, space_end};

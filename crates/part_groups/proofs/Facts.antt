@@ -5,7 +5,8 @@ use Rattle.std.specs.Prelude.{⊤}
 use Rattle.semantics.specs.Records.{Holds}
 use Rattle.semantics.specs.Values.{Datum, null, value_order}
 use Rattle.semantics.specs.declared.kind.Kind.{Kind}
-use Rattle.part_groups.specs.Known.{AreDifferentOf, IsAscending, IsDifferentOf}
+use Rattle.part_groups.specs.Known.{AreDifferentOf, IsAscending}
+use Rattle.part_groups.specs.Inside.Known.{IsDifferentOf}
 
 -- ---- different values
 

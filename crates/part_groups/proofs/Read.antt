@@ -23,7 +23,8 @@ use Rattle.part_groups.specs.declared.fault.GroupFaultKind.TheVariants.{OutOfOrd
 use Rattle.part_groups.specs.declared.shape.StateKind.{StateKind}
 use Rattle.part_groups.specs.declared.shape.StateKind.TheVariants as kind
 use Rattle.part_groups.specs.Groups.{ShapeForm}
-use Rattle.part_groups.specs.Known.{AreDifferentOf, AreGroupsFor, AreRead, AreStatesFor, HaveValues, IsWritable, IsAbove, IsDifferentOf, IsGroupFor, IsKeyFor, IsStateFor, IsSumOf}
+use Rattle.part_groups.specs.Known.{AreDifferentOf, AreGroupsFor, AreRead, AreStatesFor, HaveValues, IsWritable, IsAbove, IsGroupFor, IsKeyFor, IsStateFor, IsSumOf}
+use Rattle.part_groups.specs.Inside.Known.{IsDifferentOf}
 use Rattle.part_groups.specs.Reading.{◌>>=◌, Before, Stream, after, ascending_at, behind, can_have_members, collected_at, count_at, count_within, counted_at, different_at, each_at, extreme_at, fault_at, first_line, group_at, held_at, in_turn, is_above, is_held, is_sum_of, key_at, members_at, next_key_at, number_at, passed, reading_of, state_at, summed_at, value_at, value_or_fault}
 use Rattle.part_groups.proofs.Again.{itself, itself-all}
 use Rattle.part_groups.proofs.Facts.{AscendFrom}

@@ -1,6 +1,6 @@
 -- What is known of groups that were read, whoever wrote their lines.
 use Rattle.std.specs.List.{AllByRecursion, AllZip}
-use Rattle.std.specs.Prelude.{◌≡◌, ◌≢◌, ◌*◌, ◌^◌, ◌-◌, ◌≤◌, ⊤, ℕ, ℤ, pos, ◌-ℤ◌, ◌≤ℤ◌, List, [], ◌∷◌, ◌++◌, length, Option, Some, Ok, IfOk, IfSome, IsTrue}
+use Rattle.std.specs.Prelude.{◌≡◌, ◌≢◌, ◌*◌, ◌^◌, ◌-◌, ◌≤◌, ⊤, ℕ, ℤ, pos, ◌-ℤ◌, ◌≤ℤ◌, List, ◌∷◌, ◌++◌, length, Option, Some, Ok, IfOk, IfSome, IsTrue, []}
 use Rattle.std.specs.declared.cmp.Ordering.{Ordering}
 use Rattle.std.specs.declared.cmp.Ordering.TheVariants.{Less}
 use Rattle.semantics.specs.Groups.{Key, key_order}
@@ -28,12 +28,6 @@ IsAscending order (x ∷ y ∷ more) = (order x y ≡ Less) × IsAscending order
 -- A thing is above the last one, where there is one.
 abbrev pub IsAbove : {X : Type 0} → (X → X → Ordering) → Option X → X → Type 0
 IsAbove order last x = IfSome last (λ l. order l x ≡ Less)
-
--- A value of a column of this type that is not NULL and above the last one.
-pub record IsDifferentOf (k : Kind) (last : Option Datum) (d : Datum) : Type 0 where
-  pub held : Holds k d
-  pub known : d ≢ null
-  pub above : IsAbove value_order last d
 
 -- Different values of a column of this type: not NULL, and each before the next one.
 pub record AreDifferentOf (k : Kind) (ds : List Datum) : Type 0 where

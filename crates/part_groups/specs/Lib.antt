@@ -1,3 +1,4 @@
 pub mod Groups
 pub mod Reading
 pub mod Known
+pub mod Inside

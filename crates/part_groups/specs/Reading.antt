@@ -2,14 +2,14 @@
 use Rattle.std.specs.Borrow.{Bor}
 use Rattle.std.specs.Option.{option_copied}
 use Rattle.std.specs.Ordering.{is_lt}
-use Rattle.std.specs.Prelude.{◌≡◌, ◌+◌, ◌-◌, ◌*◌, ◌^◌, ⊤, ℕ, zero, suc, ℤ, pos, negsuc, Bool, true, false, not, nat_le, nat_lt, List, [], ◌∷◌, length, Option, Some, None, option_map, Result, Ok, Err, if◌then◌else◌}
+use Rattle.std.specs.Prelude.{◌≡◌, ◌+◌, ◌-◌, ◌*◌, ◌^◌, ⊤, ℕ, zero, suc, ℤ, pos, negsuc, Bool, true, false, not, nat_le, nat_lt, List, ◌∷◌, length, Option, Some, None, option_map, Result, Ok, Err, if◌then◌else◌, []}
 use Rattle.std.specs.declared.cmp.Ordering.{Ordering}
 use Rattle.semantics.specs.Groups.{Key, key_order}
 use Rattle.semantics.specs.Records.{is_int64, max_line_len}
 use Rattle.semantics.specs.Values.{Datum, boolean, whole, text, null, is_null, value_order}
 use Rattle.semantics.specs.declared.kind.Kind.{Kind}
 use Rattle.semantics.specs.declared.kind.Kind.TheVariants as type
-use Rattle.values.specs.Datum.{data_of, datum_of}
+use Rattle.values.specs.Datum.{data_of}
 use Rattle.values.specs.declared.value.Value.{Value}
 use Rattle.semantics.specs.GroupStates.{EntryForm, FunctionState, rows, counted, summed, extreme, collected}
 use Rattle.part_text.specs.Reading.{line_value}
@@ -155,10 +155,6 @@ in_turn one next (suc n) known s = do
 abbrev pub is_above : {X : Type 0} → (X → X → Ordering) → Option X → X → Bool
 is_above order None x = true
 is_above order (Some last) x = is_lt (order last x)
-
--- The last value and the last key, as a call has them.
-abbrev pub last_value : Option (Bor Value) → Option Datum
-last_value last = option_map datum_of (option_copied last)
 
 abbrev pub last_key : Option (Bor (List Value)) → Option Key
 last_key last = option_map data_of (option_copied last)

@@ -5,7 +5,8 @@ ghost use Rattle.semantics.specs.Records.{Holds};
 ghost use Rattle.semantics.specs.Values.{is_null, null, value_order};
 ghost use Rattle.values.specs.Datum.{data_of, datum_of};
 ghost use Rattle.part_groups.specs.Known.{IsAbove, IsSumOf};
-ghost use Rattle.part_groups.specs.Reading.{Gives, can_have_members, fault_at, is_above, is_held, is_sum_of, last_key, last_value, passed};
+ghost use Rattle.part_groups.specs.Reading.{Gives, can_have_members, fault_at, is_above, is_held, is_sum_of, last_key, passed};
+ghost use Rattle.part_groups.specs.Inside.Reading.{last_value};
 
 use crate::fault::{GroupFault, GroupFaultKind, GroupRefusal};
 use crate::source::Source;

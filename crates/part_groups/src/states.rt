@@ -2,8 +2,10 @@
 ghost use Rattle.std.specs.Prelude.{◌≡◌, ◌≤◌, IfOk, OnOk, None, vec_len};
 ghost use Rattle.values.specs.Datum.{data_of, datum_of};
 ghost use Rattle.group_states.specs.States.{state_of, states_of};
-ghost use Rattle.part_groups.specs.Known.{AreDifferentOf, AreStatesFor, IsDifferentOf, IsStateFor};
-ghost use Rattle.part_groups.specs.Reading.{Gives, ascending_at, collected_at, different_at, each_at, last_value, state_at, summed_at};
+ghost use Rattle.part_groups.specs.Known.{AreDifferentOf, AreStatesFor, IsStateFor};
+ghost use Rattle.part_groups.specs.Inside.Known.{IsDifferentOf};
+ghost use Rattle.part_groups.specs.Reading.{Gives, ascending_at, collected_at, different_at, each_at, state_at, summed_at};
+ghost use Rattle.part_groups.specs.Inside.Reading.{last_value};
 
 use crate::checks::{check, is_known, is_sum_of, is_value_above};
 use crate::fault::{GroupFaultKind, GroupRefusal};

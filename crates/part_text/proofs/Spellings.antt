@@ -18,7 +18,8 @@ use Rattle.json.specs.Token.{Token}
 use Rattle.semantics.specs.Values.{Datum, boolean, whole, text, null}
 use Rattle.values.specs.Datum.{datum_of}
 use Rattle.values.specs.declared.value.Value.{Value}
-use Rattle.part_text.specs.Reading.{IsNoLiteralName, IsTextOf, Tells, TellsAmong, if_spelled, line_value, token_value, tokens_value}
+use Rattle.part_text.specs.Inside.Reading.{IsNoLiteralName, TellsAmong}
+use Rattle.part_text.specs.Reading.{IsTextOf, Tells, if_spelled, line_value, token_value, tokens_value}
 use Rattle.part_text.specs.Texts.{is_storable}
 use Rattle.semantics.specs.Parts.{value_text}
 use Rattle.part_text.specs.declared.fault.ValueFault.{ValueFault}

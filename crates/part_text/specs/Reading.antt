@@ -1,6 +1,6 @@
 -- The values of lines.
 use Rattle.std.specs.Option.{option_and_then}
-use Rattle.std.specs.Prelude.{◌≡◌, ◌&&◌, ⊤, true, false, ℕ, List, [], ◌∷◌, Option, Some, None, IsTrue, Result, Ok, Err, if◌then◌else◌}
+use Rattle.std.specs.Prelude.{◌≡◌, ◌&&◌, ⊤, ℕ, List, ◌∷◌, Option, Some, None, IsTrue, Result, Ok, Err, if◌then◌else◌, []}
 use Rattle.std.specs.Str.{bytes_eq}
 use Rattle.std.specs.Str.Parse.{signed_digits_value}
 use Rattle.json.specs.Lex.{tokens}
@@ -47,19 +47,8 @@ line_value line = option_and_then (if_spelled line) (tokens_value (tokens line))
 abbrev pub IsTextOf : List ℕ → Datum → Type 0
 IsTextOf line d = IsTrue (is_storable d) × (line ≡ value_text d)
 
--- A line is none of the literal names of JSON.
-abbrev pub IsNoLiteralName : List ℕ → Type 0
-IsNoLiteralName line = ¬ IsTextOf line (boolean true) × ¬ IsTextOf line (boolean false) × ¬ IsTextOf line null
-
 -- Of a line with this value, or with none, a reader tells which; without memory it tells nothing.
 abbrev pub Tells : Result Value ValueFault → Option Datum → Type 0
 Tells (Ok value) found = found ≡ Some (datum_of value)
 Tells (Err NotAValue) found = found ≡ None
 Tells (Err OutOfMemory) found = ⊤
-
--- Of a line a reader of some of the values tells which of them has it as its text, or that none has;
--- without memory it tells nothing.
-abbrev pub TellsAmong : {X : Type 0} → (X → Datum) → List ℕ → Result Value ValueFault → Type 0
-TellsAmong some line (Ok value) = IsTextOf line (datum_of value)
-TellsAmong {X} some line (Err NotAValue) = (x : X) → ¬ IsTextOf line (some x)
-TellsAmong some line (Err OutOfMemory) = ⊤

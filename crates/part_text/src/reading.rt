@@ -6,7 +6,8 @@ ghost use Rattle.json.specs.Reads.{token_of};
 ghost use Rattle.json.specs.Token as json;
 ghost use Rattle.semantics.specs.Values.{whole, text};
 ghost use Rattle.values.specs.Datum.{datum_of};
-ghost use Rattle.part_text.specs.Reading.{IsNoLiteralName, IsTextOf, Tells, TellsAmong, line_value};
+ghost use Rattle.part_text.specs.Inside.Reading.{IsNoLiteralName, TellsAmong};
+ghost use Rattle.part_text.specs.Reading.{IsTextOf, Tells, line_value};
 
 use crate::fault::ValueFault;
 use crate::strings::{has_no_escape, json_string};

@@ -14,10 +14,12 @@ use Rattle.tables.specs.States.{PartialState}
 use Rattle.values.specs.Schema.{IsSchema}
 use Rattle.parts.specs.declared.fault.PartsRefusal.{PartsRefusal}
 use Rattle.parts.specs.declared.fault.PartsRefusal.TheVariants as refusal
-use Rattle.parts.specs.Faults.{PartedFault, RefusesParts, in_part, parted_of}
-use Rattle.parts.specs.Gathering.{IsOfOnePiece, contents_in}
-use Rattle.parts.specs.Joining.{AnswersParts, ArePartsFrom, JoinsBehind}
-use Rattle.parts.specs.Reader.{IsKnown, ReaderState, stream_of}
+use Rattle.parts.specs.Faults.{PartedFault, in_part, parted_of}
+use Rattle.parts.specs.Inside.Faults.{RefusesParts}
+use Rattle.parts.specs.Inside.Gathering.{IsOfOnePiece, contents_in}
+use Rattle.parts.specs.Joining.{AnswersParts}
+use Rattle.parts.specs.Inside.Joining.{ArePartsFrom, JoinsBehind}
+use Rattle.parts.specs.Inside.Reader.{IsKnown, ReaderState, stream_of}
 use Rattle.parts.specs.ReadingParts.{behind_part, part_at, parts_at, with_fault}
 use Rattle.parts.proofs.AllBack.{all-back}
 use Rattle.parts.proofs.Joins.{ContentsLaw, first-stands, read-Err, read-Ok}
@@ -62,7 +64,7 @@ module _ (plan : PlannedQuery) (ls : List (List ℕ)) (some : ls ≢ []) where
 -- ---- of parts that were written
 
 written-stands : (plan : PlannedQuery) (bytes : List ℕ) (r : Result PartialState PartsRefusal) → IsSchema plan.fields → AnswersParts plan (lines (clip_lines bytes)) r → (inputs : List (List ℕ)) → bytes ≡ flat_map (part_text plan.fields plan.query) inputs
-    → IfOk r (λ partial. StandsForInput plan.fields plan.query partial (concatenated inputs))
+    → IfOk r (λ partial. StandsForInput plan partial (concatenated inputs))
 written-stands plan bytes (Err e) schema answers inputs is = tt
 written-stands plan bytes (Ok partial) schema answers inputs is =
     answers.stands inputs
@@ -95,6 +97,6 @@ module _ (plan : PlannedQuery) (reader seen : ReaderState) (same : IsKnown reade
       (subst (λ (s : Stream). with_fault (in_part 1) (part_at plan.fields plan.query 0 s) ≡ Ok (contents_in first, stream_of after)) (same is ∙ there) (read is)) (joins is)
 
 pub known-stands : (plan : PlannedQuery) (known : Option (List ℕ)) (r : Result PartialState PartsRefusal) → IsSchema plan.fields → IfSome known (λ bytes. AnswersParts plan (lines (clip_lines bytes)) r)
-    → IfSome known (λ bytes. (inputs : List (List ℕ)) → bytes ≡ flat_map (part_text plan.fields plan.query) inputs → IfOk r (λ partial. StandsForInput plan.fields plan.query partial (concatenated inputs)))
+    → IfSome known (λ bytes. (inputs : List (List ℕ)) → bytes ≡ flat_map (part_text plan.fields plan.query) inputs → IfOk r (λ partial. StandsForInput plan partial (concatenated inputs)))
 known-stands plan None r schema answers = tt
 known-stands plan (Some bytes) r schema answers = written-stands plan bytes r schema answers

@@ -4,7 +4,7 @@ use Rattle.std.specs.Prelude.{IfOk, nat_lt, nat_le, not}
 use Rattle.semantics.specs.GroupStates.{EntryForm, FunctionState, summed, collected, counted, extreme}
 use Rattle.part_groups.proofs.ReadAs.{then_known, then_passed}
 use Rattle.part_groups.specs.Reading as groups
-use Rattle.part_groups.specs.Reading.{Before, Stream, after, ascending_at, can_have_members, collected_at, count_at, count_in, count_within, counted_at, different_at, each_at, extreme_at, first_line, group_at, groups_at, held_at, in_turn, is_above, is_held, is_sum_of, key_at, members_at, next_key_at, number_at, number_in, reading_of, state_at, summed_at, value_at, value_or_fault}
+use Rattle.part_groups.specs.Reading.{Before, Stream, after, ascending_at, can_have_members, collected_at, count_at, count_in, count_within, different_at, each_at, group_at, groups_at, held_at, in_turn, is_above, is_held, is_sum_of, key_at, members_at, next_key_at, number_at, number_in, reading_of, state_at, summed_at, value_at, value_or_fault}
 use Rattle.part_groups.specs.Groups.{ShapeForm}
 use Rattle.part_groups.specs.declared.fault.GroupFault.{GroupFault}
 use Rattle.part_groups.specs.declared.fault.GroupFaultKind.TheVariants.{OutOfOrder, OutOfRange, UnexpectedValue}

@@ -6,7 +6,7 @@ use Rattle.std.specs.Prelude.{MatchOption}
 use Rattle.std.specs.Str.{IsCharBoundary}
 use Rattle.std.specs.Str.Pattern.{FindsTextPrefix, StripsPrefix}
 use Rattle.parts.specs.ReadingParts.{behind_front}
-use Rattle.parts.specs.Texts.{IsBehind}
+use Rattle.parts.specs.Inside.Texts.{IsBehind}
 
 pub stripped : (front text : List ℕ) (r : Option (Bor (List ℕ))) → MatchOption r (FindsTextPrefix front text None) (λ x. StripsPrefix (FindsTextPrefix front) text x.now) → IsBehind (behind_front front text) r
 stripped front text None is = ap (λ b. cond b (Some (drop (length front) text)) None) (sym (starts_text false front text is))

@@ -7,7 +7,7 @@ use Rattle.query_plan.specs.Planned.{PlannedQuery}
 use Rattle.tables.specs.Contents.{DiffersInGroups, HasMembersWithin, IsTypedEntryUnder}
 use Rattle.tables.specs.Sound.{IsSoundUnder}
 use Rattle.tables.specs.States.{PartialState}
-use Rattle.parts.specs.Gathering.{CanHold}
+use Rattle.parts.specs.Inside.Gathering.{CanHold}
 
 pub put-holds : {E : Type 0} (plan : PlannedQuery) (partial : PartialState) (group : GroupEntry) (left : ℕ) (r : Result PartialState E) → CanHold plan partial (Some group) left
     → IfOk r (λ next. (most : ℕ) → HasMembersWithin most partial → HasMembersWithin (most + group.members) next)

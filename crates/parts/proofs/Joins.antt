@@ -5,17 +5,20 @@ use Rattle.std.proofs.lemmas.List.Concat.{flat_map-cons}
 use Rattle.part_groups.specs.Reading.{Stream}
 use Rattle.query_plan.specs.Planned.{PlannedQuery}
 use Rattle.tables.proofs.Following.{one-piece}
+use Rattle.tables.proofs.OnePiece.{behind-stands, own-input}
 use Rattle.tables.specs.Contents.{HasContents}
 use Rattle.semantics.specs.Parts.{ContentsForm, contents_over, closed, concatenated}
-use Rattle.tables.specs.Partials.{IsConcatenationOf, StandsForInput, whole_piece}
+use Rattle.tables.specs.Partials.{HasOwnIndexes, StandsForInput, concatenation, whole_piece}
 use Rattle.tables.specs.Sound.{IsSoundUnder}
 use Rattle.tables.specs.States.{PartialState}
 use Rattle.parts.specs.declared.fault.PartsRefusal.{PartsRefusal}
 use Rattle.parts.specs.declared.fault.PartsRefusal.TheVariants as refusal
-use Rattle.parts.specs.Faults.{PartedFault, RefusesParts, in_part, parted_of}
-use Rattle.parts.specs.Gathering.{IsOfOnePiece, contents_in}
-use Rattle.parts.specs.Joining.{ArePartsFrom, JoinsBehind, StandsForAll}
-use Rattle.parts.specs.Reader.{IsKnown, ReaderState, stream_of}
+use Rattle.parts.specs.Faults.{PartedFault, in_part, parted_of}
+use Rattle.parts.specs.Inside.Faults.{RefusesParts}
+use Rattle.parts.specs.Inside.Gathering.{IsOfOnePiece, contents_in}
+use Rattle.parts.specs.Inside.Joining.{ArePartsFrom, JoinsBehind}
+use Rattle.parts.specs.Joining.{StandsForAll}
+use Rattle.parts.specs.Inside.Reader.{IsKnown, ReaderState, stream_of}
 use Rattle.parts.specs.ReadingParts.{◌>>=◌, behind_part, part_at, with_fault}
 use Rattle.parts.proofs.Closing.{closed-contents, concatenated-whole}
 use Rattle.parts.proofs.Onward.{at_end, at_fault, at_part}
@@ -26,7 +29,7 @@ use Rattle.parts.proofs.Onward.{at_end, at_fault, at_part}
 abbrev pub ContentsLaw : Type 0
 ContentsLaw =
     (plan : PlannedQuery) (partial : PartialState) (input : List ℕ)
-    → IsSoundUnder plan partial → HasContents partial (contents_over plan.fields plan.query input) → StandsForInput plan.fields plan.query partial input
+    → IsSoundUnder plan partial → HasContents partial (contents_over plan.fields plan.query input) → StandsForInput plan partial input
 
 -- the last of some things, and those before it
 record IsLast {A B : Type 0} (f : A → B) (xs : List A) (front : List B) (b : B) : Type 0 where
@@ -47,7 +50,7 @@ last-of {A} f (x ∷ xs) (c ∷ front) b e =
     record { before = x ∷ more.before; last = more.last; all = ap (λ (ys : List A). x ∷ ys) more.all; front_is = (λ i. here i ∷ more.front_is i); last_is = more.last_is }
 
 stands-alone : ContentsLaw → (plan : PlannedQuery) (partial : PartialState) (input : List ℕ) → IsSoundUnder plan partial → IsOfOnePiece partial → contents_in partial ≡ contents_over plan.fields plan.query input
-    → StandsForInput plan.fields plan.query partial (closed input)
+    → StandsForInput plan partial (closed input)
 stands-alone law plan partial input sound one is =
     law plan partial (closed input) sound
     (subst (λ (c : ContentsForm). HasContents partial c) (is ∙ closed-contents plan.fields plan.query input) (record { refusals = one; groups = refl }))
@@ -60,7 +63,7 @@ pub first-stands : ContentsLaw → (plan : PlannedQuery) (partial : PartialState
 first-stands law plan partial sound one inputs e =
     let l = last-of (contents_over plan.fields plan.query) inputs [] (contents_in partial) e in
     let none : l.before ≡ [] = empty l.before l.front_is in
-    subst (StandsForInput plan.fields plan.query partial)
+    subst (StandsForInput plan partial)
     (ap (λ (xs : List (List ℕ)). concatenated xs ++ closed l.last) (sym none) ∙ concatenated-push l.before l.last ∙ ap concatenated (sym l.all))
     (stands-alone law plan partial l.last sound one l.last_is)
   where
@@ -69,14 +72,17 @@ first-stands law plan partial sound one inputs e =
     empty (x ∷ xs) e = absurd cc
 
 -- and one more behind others for all
-follow-stands : ContentsLaw → (plan : PlannedQuery) (all : List ContentsForm) (whole rest next : PartialState) → StandsForAll plan all whole → IsSoundUnder plan rest → IsOfOnePiece rest → IsConcatenationOf whole rest next
-    → StandsForAll plan (all ++ contents_in rest ∷ []) next
-follow-stands law plan all whole rest next stands sound one concatenation inputs e =
+follow-stands : ContentsLaw → (plan : PlannedQuery) (all : List ContentsForm) (whole rest next : PartialState) → StandsForAll plan all whole → IsSoundUnder plan rest → IsOfOnePiece rest
+    → (HasOwnIndexes whole → HasOwnIndexes rest → next ≡ concatenation whole rest) → StandsForAll plan (all ++ contents_in rest ∷ []) next
+follow-stands law plan all whole rest next stands sound one is inputs e =
     let l = last-of (contents_over plan.fields plan.query) inputs all (contents_in rest) e in
     let front = concatenated l.before in
     let joined = front ++ closed l.last in
-    let as_one = concatenation plan.fields plan.query front (closed l.last) (stands l.before l.front_is) (stands-alone law plan rest l.last sound one l.last_is) (concatenated-whole l.before) in
-    subst (StandsForInput plan.fields plan.query next) (concatenated-push l.before l.last ∙ ap concatenated (sym l.all)) (record { pieces = whole_piece joined; stands = as_one; cut = one-piece joined })
+    let before = stands l.before l.front_is in
+    let behind = stands-alone law plan rest l.last sound one l.last_is in
+    let stands_for_one = is (own-input plan whole front before) (own-input plan rest (closed l.last) behind)
+    ∙ behind-stands plan whole rest front (closed l.last) before behind (concatenated-whole l.before) in
+    subst (StandsForInput plan next) (concatenated-push l.before l.last ∙ ap concatenated (sym l.all)) (record { pieces = whole_piece joined; stands = stands_for_one; cut = one-piece joined })
 
 -- ---- what is read
 
@@ -147,14 +153,15 @@ module _ (plan : PlannedQuery) (start : ReaderState) (first : PartialState) (rea
   -- where a part was read, there is one more
   pub one-more : ContentsLaw → (s : Stream) (after : ReaderState) (rest next : PartialState) → (IsKnown reader → stream_of reader ≡ s) → (IsKnown reader → s.left ≢ [])
       → (IsKnown reader → IsKnown after) → (IsKnown reader → with_fault (in_part part) (part_at plan.fields plan.query whole.lines s) ≡ Ok (contents_in rest, stream_of after))
-      → IsSoundUnder plan rest → IsOfOnePiece rest → IsConcatenationOf whole rest next → next.lines ≡ whole.lines + rest.lines → IsSoundUnder plan next
+      → IsSoundUnder plan rest → IsOfOnePiece rest → (HasOwnIndexes whole → HasOwnIndexes rest → next ≡ concatenation whole rest)
+      → next.lines ≡ whole.lines + rest.lines → IsSoundUnder plan next
       → IsJoining plan start first after (part + 1) next
-  one-more law s after rest next same some still read sound one concatenation lines sound_too = record {
+  one-more law s after rest next same some still read sound one is lines sound_too = record {
     more = j.more ++ contents_in rest ∷ [];
     sound = sound_too;
     stands = λ all given.
         subst (λ (cs : List ContentsForm). StandsForAll plan cs next) (append_assoc all j.more (contents_in rest ∷ []))
-        (follow-stands law plan (all ++ j.more) whole rest next (j.stands all given) sound one concatenation);
+        (follow-stands law plan (all ++ j.more) whole rest next (j.stands all given) sound one is);
     read = λ known.
         let here = (j.read known).0 in (
           still here,

@@ -11,7 +11,7 @@ use Rattle.part_groups.specs.declared.fault.GroupFaultKind.{GroupFaultKind}
 use Rattle.part_groups.specs.declared.fault.GroupFaultKind.TheVariants as group_fault_kind
 use Rattle.part_groups.specs.declared.fault.GroupRefusal.{GroupRefusal}
 use Rattle.part_groups.specs.declared.fault.GroupRefusal.TheVariants as refusal
-use Rattle.parts.specs.Hashing.{HoldsText}
+use Rattle.parts.specs.Inside.Hashing.{HoldsText}
 use Rattle.parts.specs.declared.checksum.TextHasher.{TextHasher}
 use Rattle.semantics.specs.Canonical.{canonical_text}
 use Rattle.semantics.specs.Columns.{Field}
@@ -19,8 +19,9 @@ use Rattle.semantics.specs.Syntax.{TreeForm}
 use Rattle.semantics.specs.declared.line_fault.LineFault.{LineFault}
 use Rattle.tables.specs.Contents.{DiffersInGroups, HasRefusals}
 use Rattle.tables.specs.States.{PartialState}
-use Rattle.parts.specs.Faults.{FaultKind, Refuses, group_kind, kind_of, kind_of_groups, refusal_of_groups}
-use Rattle.parts.specs.Gathering.{contents_of, first_refused, groups_of, refused_in}
+use Rattle.parts.specs.Faults.{FaultKind, group_kind, kind_of}
+use Rattle.parts.specs.Inside.Faults.{Refuses, kind_of_groups, refusal_of_groups}
+use Rattle.parts.specs.Inside.Gathering.{contents_of, first_refused, groups_of, refused_in}
 use Rattle.parts.specs.declared.gathering.Gathering.{Gathering}
 use Rattle.parts.specs.ReadingParts.{of_part}
 

@@ -14,7 +14,7 @@ use Rattle.semantics.specs.Syntax.{TreeForm}
 use Rattle.semantics.specs.declared.line_fault.LineFault.{LineFault}
 use Rattle.sha2.specs.Sha256.{sha256}
 use Rattle.parts.specs.Faults.{Fault, FaultKind, PartedFault, group_fault, in_part, not_a_part, other_columns, other_query, out_of_order, out_of_range, too_many_lines, wrong_checksum}
-use Rattle.parts.specs.Joining.{ArePartsFrom}
+use Rattle.parts.specs.Inside.Joining.{ArePartsFrom}
 use Rattle.parts.specs.ReadingParts.{◌>>=◌, all_refused_at, behind_part, can_have, checksum_at, contents_at, fault_named, group_count_at, header_at, header_of, line_fault_in, lines_at, mark_at, mark_in, none_other, of_part, other_at, other_text, part_at, parts_from, passed, refused_at, refused_line_at, said_at, shape_under, text_at, text_in, with_fault}
 use Rattle.parts.proofs.Back.{seen, then-known}
 use Rattle.parts.proofs.Forward.{count-forward, groups-forward, value-fewer, value-forward, within-forward}

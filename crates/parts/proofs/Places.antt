@@ -13,7 +13,7 @@ use Rattle.lines.specs.Pieces.{AreWholeLines, EndsInFeed}
 use Rattle.lines.specs.Rounds.{HasMoved, RoundsState}
 use Rattle.lines.specs.declared.fault.ReadFault.{ReadFault}
 use Rattle.semantics.specs.Lines.{line_feed, lines}
-use Rattle.parts.specs.Reader.{HasLine, IsAtLine, IsLineAt, left_at}
+use Rattle.parts.specs.Inside.Reader.{HasLine, IsAtLine, IsLineAt, left_at}
 
 -- ---- whole lines
 

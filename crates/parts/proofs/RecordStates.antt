@@ -26,6 +26,7 @@ use Rattle.query_resolve.specs.declared.function.FilteredFunction.{FilteredFunct
 use Rattle.part_groups.specs.Known.{AreDifferentOf, AreStatesFor, IsAscending, IsKeyFor, IsStateFor, IsSumOf}
 use Rattle.tables.proofs.Bags.{all-distinct, all-filter, all-filter_map, find-such}
 use Rattle.tables.proofs.Bound.{bound-functions}
+use Rattle.query_plan.specs.Planned.{plan_of}
 use Rattle.tables.specs.Functions.{filter_tests}
 use Rattle.tables_groups.proofs.Ascending.{in_order-sorted}
 use Rattle.tables_groups.proofs.Order.{value_total}
@@ -219,5 +220,5 @@ keys-fit fields (place ∷ set) rows fit =
 pub states-fit : (fields : List Field) (q : TreeForm) (rows : List Row) → AllByRecursion (Fits fields) rows
     → AreStatesFor (length rows) (map (state_kind fields) (indexed_functions fields q)) (map (λ f. function_state f rows) (aggregate_functions fields q))
 states-fit fields q rows fit =
-    subst (λ (fs : List AggregateFunction). AreStatesFor (length rows) (map (state_kind fields) (indexed_functions fields q)) (map (λ f. function_state f rows) fs)) (bound-functions fields q)
-    (all-states-fit fields (filter_tests fields q) rows fit (indexed_functions fields q))
+    subst (λ (fs : List AggregateFunction). AreStatesFor (length rows) (map (state_kind fields) (indexed_functions fields q)) (map (λ f. function_state f rows) fs)) (bound-functions (plan_of fields q))
+    (all-states-fit fields (filter_tests (plan_of fields q)) rows fit (indexed_functions fields q))

@@ -20,7 +20,7 @@ use Rattle.json.specs.Json.{if_last, value}
 use Rattle.json.specs.Tree.{json_tokens, members_tokens}
 use Rattle.json.proofs.Unique.Spelling.{value-json_tokens_back}
 use Rattle.serde_json.specs.Data as json
-use Rattle.serde_json.specs.Data.{Data, Members, Num, float, member, negative, no_members, put, unsigned}
+use Rattle.serde_json.specs.Data.{Data, Members, Num, member, no_members, put}
 use Rattle.serde_json.specs.Find.{as_integer, get_member}
 use Rattle.serde_json.specs.Read.{max_depth, number_of, of_items, of_json, of_members, read}
 use Rattle.semantics.specs.Columns.{Field}

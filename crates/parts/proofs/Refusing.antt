@@ -5,7 +5,8 @@ use Rattle.semantics.specs.Columns.{Field}
 use Rattle.semantics.specs.declared.line_fault.LineFault.{LineFault}
 use Rattle.parts.specs.declared.fault.PartRefusal.{PartRefusal}
 use Rattle.parts.specs.declared.fault.PartRefusal.TheVariants as refusal
-use Rattle.parts.specs.Faults.{Fault, Refuses}
+use Rattle.parts.specs.Faults.{Fault}
+use Rattle.parts.specs.Inside.Faults.{Refuses}
 use Rattle.parts.specs.ReadingParts.{◌>>=◌, refused_at, refused_line_at}
 
 abbrev Refused : Type 0

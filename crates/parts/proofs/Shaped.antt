@@ -29,10 +29,10 @@ use Rattle.tables.specs.States.{PartialState}
 use Rattle.tables.proofs.Columns.{functions-columns, grouping-columns}
 use Rattle.tables_groups.proofs.Order.{key_total}
 use Rattle.tables_groups.specs.Fitting.{IsHeld}
-use Rattle.tables_groups.specs.Inside.Accumulator.{IsSumOf}
-use Rattle.tables_groups.specs.Inside.Entries.{AreStatesFor, HasFormBy, IsBehind, IsCountState, IsDistinctState, IsEntryFor, IsExtremeOf, IsExtremeState, IsRowsState, IsSumState, IsTypedEntry}
-use Rattle.tables_groups.specs.Inside.Typed.{AreColumns, HasColumn, HaveColumns, IsKeyOf}
-use Rattle.parts.specs.Gathering.{CanHold, IsLastOf, key_of, last_of}
+use Rattle.tables_groups.specs.Accumulator.{IsSumOf}
+use Rattle.tables_groups.specs.Entries.{AreStatesFor, HasFormBy, IsBehind, IsCountState, IsDistinctState, IsEntryFor, IsExtremeOf, IsExtremeState, IsRowsState, IsSumState, IsTypedEntry}
+use Rattle.tables_groups.specs.Typed.{AreColumns, HasColumn, HaveColumns, IsKeyOf}
+use Rattle.parts.specs.Inside.Gathering.{CanHold, IsLastOf, key_of, last_of}
 use Rattle.parts.specs.ReadingParts.{shape_under, state_kind, state_kind_by, type_at}
 
 -- ---- keys

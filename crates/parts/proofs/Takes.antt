@@ -28,7 +28,7 @@ use Rattle.tables.proofs.Bags.{all-append}
 use Rattle.tables.specs.States.{PartialState}
 use Rattle.part_groups.specs.Known.{IsWritable}
 use Rattle.parts.specs.Joining.{AnswersParts, IsNoFault}
-use Rattle.parts.specs.Reader.{IsKnown, ReaderState, stream_of}
+use Rattle.parts.specs.Inside.Reader.{IsKnown, ReaderState, stream_of}
 use Rattle.parts.specs.ReadingParts.{parts_at}
 use Rattle.parts.specs.declared.fault.PartsRefusal.{PartsRefusal}
 use Rattle.parts.specs.declared.fault.PartsRefusal.TheVariants as refusal

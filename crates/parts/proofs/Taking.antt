@@ -12,7 +12,7 @@ use Rattle.lines.specs.Rounds.{RoundsState}
 use Rattle.semantics.specs.Lines.{lines}
 use Rattle.values.specs.Datum.{datum_of}
 use Rattle.values.specs.declared.value.Value.{Value}
-use Rattle.parts.specs.Reader.{HasTaken, left_at, refused_at}
+use Rattle.parts.specs.Inside.Reader.{HasTaken, left_at, refused_at}
 
 -- behind the last line
 pub ends-there : (known : Option (List ℕ)) (line : ℕ) → IsSome known → IsAtEnd known

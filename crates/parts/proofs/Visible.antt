@@ -1,5 +1,5 @@
 -- How a text is shown, character by character from the front.
-use Rattle.std.proofs.Common.{◌≡◌, ◌-◌, ◌<◌, ◌+◌, ℕ, zero, suc, List, [], ◌∷◌, ◌++◌, length, take, drop, flat_map, chars, encode_utf8, encode_utf8_all, IsUtf8, refl, ap, ◌∙◌, append_assoc, arith}
+use Rattle.std.proofs.Common.{◌≡◌, ◌-◌, ◌<◌, ◌+◌, ℕ, zero, suc, List, [], ◌++◌, length, take, drop, flat_map, chars, encode_utf8, encode_utf8_all, IsUtf8, refl, ap, ◌∙◌, append_assoc, arith}
 use Rattle.std.proofs.StrCases.{chars_of_empty}
 use Rattle.std.proofs.lemmas.List.Concat.{flat_map-cons}
 use Rattle.std.proofs.lemmas.Str.{chars_past_char}

@@ -18,6 +18,7 @@ use Rattle.semantics.specs.declared.function.ColumnFunction.{ColumnFunction}
 use Rattle.semantics.specs.declared.function.ColumnFunction.TheVariants as function
 use Rattle.tables.proofs.Bags.{all-distinct, all-everywhere, all-map}
 use Rattle.tables.proofs.Bound.{bound-functions}
+use Rattle.query_plan.specs.Planned.{plan_of}
 use Rattle.tables.specs.Functions.{filter_tests}
 use Rattle.tables_groups.specs.Functions.{aggregates_of, filter_at}
 use Rattle.parts.proofs.Lists.{all-ordered, weaker}
@@ -63,8 +64,8 @@ entries-shaped fields q records =
     let functions = aggregate_functions fields q in
     let states : (key : Key) → AllZip HasKind (map (state_kind fields) (indexed_functions fields q)) (map (λ f. function_state f (members places key records)) functions) =
     λ key.
-    subst (λ (fs : List AggregateFunction). AllZip HasKind (map (state_kind fields) (indexed_functions fields q)) (map (λ f. function_state f (members places key records)) fs)) (bound-functions fields q)
-    (states-shaped fields (filter_tests fields q) (indexed_functions fields q) (members places key records)) in
+    subst (λ (fs : List AggregateFunction). AllZip HasKind (map (state_kind fields) (indexed_functions fields q)) (map (λ f. function_state f (members places key records)) fs)) (bound-functions (plan_of fields q))
+    (states-shaped fields (filter_tests (plan_of fields q)) (indexed_functions fields q) (members places key records)) in
     let one : (key : Key) → length key ≡ length places → HasShape (shape_under fields q) (entry_over places functions records key) =
     λ key wide. record { key = wide ∙ sym (length-map places (type_at fields)); states = states key } in
     all-map (HasShape (shape_under fields q)) (entry_over places functions records) (in_order key_order (keys places records)) (weaker one (in_order key_order (keys places records)) (all-ordered key_order (λ key. length key ≡ length places) (keys places records) (keys-wide places records)))

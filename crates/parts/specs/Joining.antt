@@ -1,6 +1,5 @@
 -- What the result of all parts is.
-use Rattle.std.specs.Prelude.{◌≡◌, ◌≤◌, ◌++◌, ⊤, ℕ, List, length, map, Result, Ok, Err, IsOk}
-use Rattle.part_groups.specs.Reading.{Stream}
+use Rattle.std.specs.Prelude.{◌≡◌, ⊤, ℕ, List, map, Result, Ok, Err, IsOk}
 use Rattle.query_plan.specs.Planned.{PlannedQuery}
 use Rattle.lines.specs.Clip.{clip_lines}
 use Rattle.semantics.specs.Columns.{Field}
@@ -14,35 +13,20 @@ use Rattle.tables.specs.States.{PartialState}
 use Rattle.parts.specs.declared.fault.PartsRefusal.{PartsRefusal}
 use Rattle.parts.specs.declared.fault.PartsRefusal.TheVariants as refusal
 use Rattle.parts.specs.Faults.{PartedFault, parted_of}
-use Rattle.parts.specs.ReadingParts.{parts_at, parts_from}
+use Rattle.parts.specs.ReadingParts.{parts_at}
 
 -- A result is that of these contents, one behind the other: whatever inputs they are the contents of, it
 -- stands for these, one behind the other.
 abbrev pub StandsForAll : PlannedQuery → List ContentsForm → PartialState → Type 0
 StandsForAll plan all partial =
     (inputs : List (List ℕ)) → all ≡ map (contents_over plan.fields plan.query) inputs
-    → StandsForInput plan.fields plan.query partial (concatenated inputs)
+    → StandsForInput plan partial (concatenated inputs)
 
 -- A result is that of all parts that lines are read as.
 pub record IsJoin (plan : PlannedQuery) (ls : List (List ℕ)) (partial : PartialState) : Type 0 where
   pub contents : List ContentsForm
   pub read : parts_at plan.fields plan.query ls ≡ Ok contents
   pub stands : StandsForAll plan contents partial
-
--- What the parts are read as that are numbered from `part` on and stand behind parts of so many lines, if
--- there may be as many of them as there are lines.
-abbrev pub ArePartsFrom : List Field → TreeForm → (part before : ℕ) → Stream → Result (List ContentsForm) PartedFault → Type 0
-ArePartsFrom fields q part before s answer = (most : ℕ) → length s.left ≤ most → parts_from fields q most part before s ≡ answer
-
--- Behind parts whose result is this one, a call joins those that are numbered from `part` on: it answers
--- the result of all, or the first fault of these.
-abbrev pub JoinsBehind : PlannedQuery → PartialState → ℕ → Stream → Result PartialState PartsRefusal → Type 0
-JoinsBehind plan first part s (Ok whole) =
-    (more : List ContentsForm) × ArePartsFrom plan.fields plan.query part first.lines s (Ok more)
-    × ((all : List ContentsForm) → StandsForAll plan all first → StandsForAll plan (all ++ more) whole)
-JoinsBehind plan first part s (Err (refusal.Fault fault)) = ArePartsFrom plan.fields plan.query part first.lines s (Err (parted_of fault))
-JoinsBehind plan first part s (Err refusal.Reading) = ⊤
-JoinsBehind plan first part s (Err refusal.OutOfMemory) = ⊤
 
 -- A call that reads lines answers the result of the parts that they are, or their first fault; where a
 -- read failed, or without memory, nothing is known of them.

@@ -1,8 +1,5 @@
 pub mod Faults
-pub mod Reader
-pub mod Texts
 pub mod Shown
 pub mod ReadingParts
-pub mod Gathering
-pub mod Hashing
 pub mod Joining
+pub mod Inside

@@ -1,5 +1,5 @@
 -- Reading parts from the front, line by line, as far as the first fault.
-use Rattle.std.specs.Prelude.{◌==◌, ◌-◌, ◌^◌, ◌+◌, ◌&&◌, not, ℕ, zero, suc, nat_eq, nat_lt, Bool, true, List, [], ◌∷◌, codes, length, map, position, option_and_then, option_map, unwrap_or, drop, Option, Some, None, Result, Ok, Err, if◌then◌else◌}
+use Rattle.std.specs.Prelude.{◌==◌, ◌-◌, ◌^◌, ◌+◌, ◌&&◌, not, ℕ, zero, suc, nat_eq, nat_lt, Bool, true, List, ◌∷◌, codes, length, map, position, option_and_then, option_map, unwrap_or, drop, Option, Some, None, Result, Ok, Err, if◌then◌else◌, []}
 use Rattle.std.specs.Char.{is_ascii_digit}
 use Rattle.std.specs.List.{list_all, starts_with}
 use Rattle.std.specs.Str.{bytes_eq}

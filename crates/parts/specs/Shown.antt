@@ -1,7 +1,7 @@
 -- How a message shows a text of a part.
 use Rattle.std.specs.Char.{encode_utf8}
 use Rattle.std.specs.Int.{to_be_bytes, w16}
-use Rattle.std.specs.Prelude.{◌&&◌, ◌||◌, ℕ, nat_le, Bool, List, [], ◌∷◌, ◌++◌, codes, drop, flat_map, take, if◌then◌else◌}
+use Rattle.std.specs.Prelude.{◌&&◌, ◌||◌, ℕ, nat_le, Bool, List, ◌∷◌, ◌++◌, codes, drop, flat_map, take, if◌then◌else◌, []}
 use Rattle.std.specs.Str.{chars, encode_utf8_all}
 use Rattle.hex.specs.Hex.{encode_lower}
 use Rattle.json.specs.Print.{quoted}

@@ -3,8 +3,8 @@ ghost use Rattle.hex.specs.Hex.{encode_lower};
 ghost use Rattle.sha2.specs.Sha256.{sha256};
 ghost use Rattle.sha2.specs.Hashers.{Holds256};
 ghost use Rattle.std.specs.Prelude.{◌≡◌, ◌≤◌, ℕ, IfOk, List, OnOk, string_bytes};
-ghost use Rattle.parts.specs.Faults.{Gives};
-ghost use Rattle.parts.specs.Hashing.{HoldsText};
+ghost use Rattle.parts.specs.Inside.Faults.{Gives};
+ghost use Rattle.parts.specs.Inside.Hashing.{HoldsText};
 ghost use Rattle.semantics.specs.Parts.{with_checksum};
 ghost use Rattle.parts.specs.ReadingParts.{checksum_at};
 

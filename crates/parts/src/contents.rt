@@ -4,9 +4,9 @@ ghost use Rattle.part_groups.specs.Groups.{shape_of};
 ghost use Rattle.semantics.specs.Parts.{text_of, columns_text, values_with};
 ghost use Rattle.semantics.specs.Canonical.{canonical_text};
 ghost use Rattle.tables.specs.Contents.{HasRefusals, groups_in};
-ghost use Rattle.parts.specs.Faults.{Gives};
-ghost use Rattle.parts.specs.Hashing.{HoldsText};
-ghost use Rattle.parts.specs.Gathering.{IsGathering, IsOfOnePiece, contents_of};
+ghost use Rattle.parts.specs.Inside.Faults.{Gives};
+ghost use Rattle.parts.specs.Inside.Hashing.{HoldsText};
+ghost use Rattle.parts.specs.Inside.Gathering.{IsGathering, IsOfOnePiece, contents_of};
 ghost use Rattle.parts.specs.ReadingParts.{can_have, contents_at, group_count_at, lines_at, shape_under};
 
 use crate::checksum::TextHasher;

@@ -1,7 +1,7 @@
 //! What is wrong with parts.
 
 ghost use Rattle.std.specs.Prelude.{◌≡◌};
-ghost use Rattle.parts.specs.Faults.{kind_of_groups, refusal_of_groups};
+ghost use Rattle.parts.specs.Inside.Faults.{kind_of_groups, refusal_of_groups};
 ghost use Rattle.parts.specs.declared.fault.PartRefusal.TheVariants.{OutOfMemory};
 ghost use Rattle.parts.specs.declared.fault.PartsRefusal.TheVariants as of_parts;
 

@@ -4,7 +4,7 @@ ghost use Rattle.std.specs.Prelude.{◌≡◌, ◌-◌, ◌++◌, ◌∷◌, [],
 ghost use Rattle.group_states.specs.States.{entry_of};
 ghost use Rattle.semantics.specs.Parts.{group_values, text_of};
 ghost use Rattle.part_groups.specs.Known.{IsGroupFor};
-ghost use Rattle.parts.specs.Hashing.{HoldsText};
+ghost use Rattle.parts.specs.Inside.Hashing.{HoldsText};
 ghost use Rattle.tables.specs.Contents.{DiffersInGroups};
 ghost use Rattle.tables.specs.Sound.{IsSoundUnder};
 ghost use Rattle.values.specs.Datum.{data_of};
@@ -32,7 +32,7 @@ pub(crate) struct Gathering {
 }
 
 impl Gathering {
-    ghost use Rattle.parts.specs.Gathering.{IsGathering, groups_of, key_of};
+    ghost use Rattle.parts.specs.Inside.Gathering.{IsGathering, groups_of, key_of};
 
     /// The key of the last group.
     pub(crate) fn last_key(&self) -> Option<&[Value]>

@@ -4,9 +4,9 @@ ghost use Rattle.part_groups.specs.Groups.{shape_of};
 ghost use Rattle.semantics.specs.Parts.{groups_values, text_of};
 ghost use Rattle.part_groups.specs.Reading.{groups_at};
 ghost use Rattle.tables.specs.Contents.{DiffersInGroups};
-ghost use Rattle.parts.specs.Faults.{Gives};
-ghost use Rattle.parts.specs.Hashing.{HoldsText};
-ghost use Rattle.parts.specs.Gathering.{IsGathering, groups_of};
+ghost use Rattle.parts.specs.Inside.Faults.{Gives};
+ghost use Rattle.parts.specs.Inside.Hashing.{HoldsText};
+ghost use Rattle.parts.specs.Inside.Gathering.{IsGathering, groups_of};
 ghost use Rattle.parts.specs.ReadingParts.{of_part, shape_under};
 
 use crate::fault::PartRefusal;

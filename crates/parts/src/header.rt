@@ -3,9 +3,10 @@ ghost use Rattle.std.specs.Prelude.{◌≡◌, ◌<◌, ◌≤◌, IfOk, OnOk};
 ghost use Rattle.std.specs.Char.{is_ascii_digit};
 ghost use Rattle.std.specs.List.{list_all};
 ghost use Rattle.semantics.specs.Values as semantics;
-ghost use Rattle.parts.specs.Faults.{Gives, kind_of, other_columns, other_query, refusal_of_mark};
+ghost use Rattle.parts.specs.Inside.Faults.{Gives, refusal_of_mark};
+ghost use Rattle.parts.specs.Faults.{kind_of, other_columns, other_query};
 ghost use Rattle.parts.specs.ReadingParts.{behind_front, has_leading_zero, header_of, is_version, kind_of_mark, mark_at, mark_in, said_at};
-ghost use Rattle.parts.specs.Texts.{IsBehind};
+ghost use Rattle.parts.specs.Inside.Texts.{IsBehind};
 
 use crate::fault::{PartFault, PartRefusal};
 use crate::shown::shortened;

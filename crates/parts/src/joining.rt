@@ -6,13 +6,15 @@ ghost use Rattle.semantics.specs.Canonical.{canonical_text};
 ghost use Rattle.semantics.specs.Lines.{lines};
 ghost use Rattle.tables.specs.Partials.{StandsForInput};
 ghost use Rattle.tables.specs.Sound.{IsSoundUnder};
-ghost use Rattle.parts.specs.Faults.{GivesParts, in_part, refusal_in};
-ghost use Rattle.parts.specs.Gathering.{IsOfOnePiece, contents_in};
-ghost use Rattle.parts.specs.Joining.{AnswersParts, IsNoFault, JoinsBehind};
+ghost use Rattle.parts.specs.Inside.Faults.{GivesParts, refusal_in};
+ghost use Rattle.parts.specs.Faults.{in_part};
+ghost use Rattle.parts.specs.Inside.Gathering.{IsOfOnePiece, contents_in};
+ghost use Rattle.parts.specs.Joining.{AnswersParts, IsNoFault};
+ghost use Rattle.parts.specs.Inside.Joining.{JoinsBehind};
 ghost use Rattle.semantics.specs.Joins.{CanBeJoined};
 ghost use Rattle.semantics.specs.Parts.{columns_text, concatenated, part_text};
 ghost use Rattle.parts.specs.ReadingParts.{part_at, shape_under, with_fault};
-ghost use Rattle.parts.specs.Reader.{IsKnown, stream_of};
+ghost use Rattle.parts.specs.Inside.Reader.{IsKnown, stream_of};
 
 use crate::fault::{PartRefusal, PartsRefusal};
 use crate::part::next_part;
@@ -24,7 +26,7 @@ use query_plan::Plan;
 use semantics::{PartsFault, PartsFaultKind};
 use std::alloc::Global;
 use std::io::Read;
-use tables::{Executor, Partial, contents_law};
+use tables::{Executor, Partial, contents_law, sound_law};
 
 /// A refusal of the part of this number.
 fn refusal_in(part: u64, refusal: PartRefusal) -> PartsRefusal
@@ -91,6 +93,7 @@ fn join_rest<R: Read + Drop, E: Executor>(
         → JoinsBehind plan.now first 2 (stream_of reader.old) result }
 {
     contents_law();
+    sound_law();
     let mut whole = first;
     let mut part = 2;
     while reader.has_line()? {
@@ -129,7 +132,7 @@ pub fn read_parts<R: Read + Drop, E: Executor>(
         AnswersParts plan.now (lines (clip_lines bytes)) result) }
     ensures stands { IfSome (R.remaining reader) (λ bytes. (inputs : List (List ℕ))
         → bytes ≡ flat_map (part_text plan.now.fields plan.now.query) inputs
-        → IfOk result (λ partial. StandsForInput plan.now.fields plan.now.query partial
+        → IfOk result (λ partial. StandsForInput plan.now partial
         (concatenated inputs))) }
     ensures takes { IfSome (R.remaining reader) (λ bytes. (inputs : List (List ℕ))
         → bytes ≡ flat_map (part_text plan.now.fields plan.now.query) inputs

@@ -3,8 +3,8 @@ ghost use Rattle.std.specs.Prelude.{◌≡◌, ◌+◌, ◌^◌, ◌<◌, IfOk, 
 ghost use Rattle.part_groups.specs.Groups.{shape_of};
 ghost use Rattle.semantics.specs.Canonical.{canonical_text};
 ghost use Rattle.tables.specs.Sound.{IsSoundUnder};
-ghost use Rattle.parts.specs.Faults.{Gives};
-ghost use Rattle.parts.specs.Gathering.{IsOfOnePiece, contents_in};
+ghost use Rattle.parts.specs.Inside.Faults.{Gives};
+ghost use Rattle.parts.specs.Inside.Gathering.{IsOfOnePiece, contents_in};
 ghost use Rattle.semantics.specs.Parts.{columns_text};
 ghost use Rattle.parts.specs.ReadingParts.{part_at, shape_under};
 

@@ -1,7 +1,7 @@
 //! A group put to a partial result.
 ghost use Rattle.std.specs.Prelude.{◌≡◌, ◌++◌, IfOk, None};
 ghost use Rattle.tables.specs.Contents.{DiffersInGroups, groups_in};
-ghost use Rattle.parts.specs.Gathering.{CanHold, last_of};
+ghost use Rattle.parts.specs.Inside.Gathering.{CanHold, last_of};
 
 use group_states::GroupEntry;
 use query_plan::Plan;

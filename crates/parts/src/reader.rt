@@ -4,7 +4,7 @@ ghost use Rattle.std.specs.Prelude.{◌≡◌, ◌<◌, ◌≤◌, ◌+◌, ◌^
 ghost use Rattle.lines.specs.Clip.{clip_lines};
 ghost use Rattle.part_groups.specs.Reading.{reading_of};
 ghost use Rattle.part_text.specs.Reading.{Tells};
-ghost use Rattle.parts.specs.Reader.{HasLine, HasTaken, IsAtLine, IsLineAt, left_at, refused_at};
+ghost use Rattle.parts.specs.Inside.Reader.{HasLine, HasTaken, IsAtLine, IsLineAt, left_at, refused_at};
 
 use lines::{ReadFault, Rounds};
 use memchr::memchr;
@@ -47,7 +47,7 @@ impl<R: Read + Drop> Drop for PartReader<R> {
 }
 
 impl<R: Read + Drop> Model for PartReader<R> {
-    ghost use Rattle.parts.specs.Reader.{IsAtLine, ReaderState, left_at};
+    ghost use Rattle.parts.specs.Inside.Reader.{IsAtLine, ReaderState, left_at};
 
     ghost Value = { ReaderState };
 
@@ -61,7 +61,7 @@ impl<R: Read + Drop> Model for PartReader<R> {
 
 impl<R: Read + Drop> PartReader<R> {
     ghost use Rattle.std.specs.Prelude.{option_map};
-    ghost use Rattle.parts.specs.Reader.{IsKnown, stream_of};
+    ghost use Rattle.parts.specs.Inside.Reader.{IsKnown, stream_of};
 
     /// Before the first line of what a reader gives, of which nothing is read yet.
     ///
@@ -159,7 +159,7 @@ fn take_line<R: Read + Drop>(
 }
 
 impl<R: Read + Drop> Source for PartReader<R> {
-    ghost use Rattle.parts.specs.Reader.{IsKnown, stream_of};
+    ghost use Rattle.parts.specs.Inside.Reader.{IsKnown, stream_of};
 
     ghost known = { λ reader. IsKnown reader };
 

@@ -1,7 +1,7 @@
 //! The refused lines of a part.
 ghost use Rattle.std.specs.Prelude.{◌≡◌, ◌≤◌, All, IfOk, OnOk, length};
 ghost use Rattle.values.specs.Schema.{fields_of};
-ghost use Rattle.parts.specs.Faults.{Gives};
+ghost use Rattle.parts.specs.Inside.Faults.{Gives};
 ghost use Rattle.parts.specs.ReadingParts.{all_refused_at, refused_at, refused_line_at};
 
 use crate::fault::PartRefusal;

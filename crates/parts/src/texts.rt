@@ -1,6 +1,7 @@
 //! Texts of a part, read one by one.
 ghost use Rattle.std.specs.Prelude.{◌≡◌, ◌≤◌, IfOk, IsTrue, OnOk, option_map, string_bytes};
-ghost use Rattle.parts.specs.Faults.{Gives, fault_at_line, kind_of};
+ghost use Rattle.parts.specs.Inside.Faults.{Gives, fault_at_line};
+ghost use Rattle.parts.specs.Faults.{kind_of};
 ghost use Rattle.parts.specs.ReadingParts.{other_at, other_text, passed, text_at};
 
 use crate::fault::{PartFault, PartRefusal};

@@ -22,7 +22,7 @@ use tables::Partial;
 /// `AllocError` where there is no memory for the text.
 pub fn write_part(alloc: Global, plan: &Plan, partial: Partial) -> Result<Vec<u8>, AllocError>
     ensures { IfOk result (λ text. (input : List ℕ)
-        → StandsForInput plan.now.fields plan.now.query partial input
+        → StandsForInput plan.now partial input
         → text.items ≡ part_text plan.now.fields plan.now.query input) }
 {
     let columns = plan.schema().columns();

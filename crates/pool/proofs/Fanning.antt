@@ -2,14 +2,15 @@
 use Rattle.std.proofs.Common.{◌≡◌, ℕ, ◌+◌, ◌-◌, ◌^◌, ◌<◌, ◌≤◌, ◌⊎◌, List, map, min, sym, ap, ◌∙◌, subst, ⊎_elim, arith}
 use Rattle.pool.specs.Reduction.{Reduction, reduction_below}
 use Rattle.pool.specs.Dealing.{times}
-use Rattle.pool.specs.Inside.Rule.{UpTo}
-use Rattle.pool.specs.Inside.Totals.{combination_of}
+use Rattle.pool.specs.Inside.Steps.{UpTo}
+use Rattle.pool.specs.Inside.Combination.{combination_of}
 use Rattle.pool.specs.Totals.{sum_below, sum_list, once_below}
 use Rattle.pool.specs.Outcomes.{Decides}
 use Rattle.pool.specs.Lawful.{Lawful}
 use Rattle.pool.specs.Holding.{Holding}
 use Rattle.pool.specs.Settled.{AreAll, AllSpent, HaveNoneTwice, numbers_of_all, pieces_of}
-use Rattle.pool.specs.Inside.Done.{Worker, hands_of, sums_of, parts_of}
+use Rattle.pool.specs.Done.{Worker}
+use Rattle.pool.specs.Inside.Done.{hands_of, sums_of, parts_of}
 use Rattle.pool.specs.Inside.Fanned.{AreReady, DidAll, beginning_at}
 use Rattle.pool.specs.Fanned.{CameBack, Settles, Outweighs, IsAbove}
 use Rattle.pool.specs.declared.laws.Outcome.{Outcome}

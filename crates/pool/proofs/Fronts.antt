@@ -9,7 +9,7 @@ use Rattle.std.specs.declared.alloc.Global.{Global}
 use Rattle.pool.specs.Dealing.{state, put, after, times, AllAbove, Ascends, residue_class, left_after, GoesOn, steps_at, AreStepsOf}
 use Rattle.pool.specs.Totals.{once_below}
 use Rattle.pool.specs.Rule.{AllBelow}
-use Rattle.pool.specs.Inside.Rule.{AreKnown}
+use Rattle.pool.specs.Steps.{AreKnown}
 use Rattle.pool.specs.Inside.Looks.{history_in, AllReach, HaveOneRun, seats_from}
 use Rattle.pool.specs.Seen.{Seen}
 use Rattle.pool.specs.Holding.{Holding}

@@ -5,7 +5,7 @@ use Rattle.pool.specs.Reduction.{Reduction, reduction_below}
 use Rattle.pool.specs.Lawful.{Lawful}
 use Rattle.pool.specs.Dealing.{times}
 use Rattle.pool.specs.Totals.{sum_below, sum_list, once_below}
-use Rattle.pool.specs.Inside.Totals.{reduction_from}
+use Rattle.pool.specs.Combination.{reduction_from}
 use Rattle.pool.proofs.Machine.{times-append}
 
 same : (x : ℕ) → (x == x) ≡ true

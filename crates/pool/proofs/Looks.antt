@@ -4,8 +4,10 @@ use Rattle.std.specs.declared.alloc.Global.{Global}
 use Rattle.pool.specs.declared.view.View.{View}
 use Rattle.pool.specs.Dealing.{left_after}
 use Rattle.pool.specs.Rule.{view_of, AllBelow}
-use Rattle.pool.specs.Inside.Rule.{AreKnown, front, rest, Up, Apart, lent_view}
-use Rattle.pool.specs.Inside.Views.{owned_of, place_of, history_of, IsThief, IsOwner, Looked}
+use Rattle.pool.specs.Steps.{AreKnown, front, rest, lent_view}
+use Rattle.pool.specs.Inside.Steps.{Up, Apart}
+use Rattle.pool.specs.Views.{owned_of, place_of, history_of, IsThief, IsOwner}
+use Rattle.pool.specs.Inside.Views.{Looked}
 use Rattle.pool.specs.Inside.Looks.{KnowsAbove, OneRun}
 use Rattle.pool.proofs.Rules.{up_apart}
 

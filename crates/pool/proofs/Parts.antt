@@ -5,13 +5,15 @@ use mathlib.Core.Option.{some}
 use lib.ListN.{get_elem?}
 use Rattle.pool.specs.Reduction.{Reduction, reduction_below}
 use Rattle.pool.specs.Dealing.{times}
-use Rattle.pool.specs.Inside.Totals.{combination_of, reduction_from}
+use Rattle.pool.specs.Inside.Combination.{combination_of}
+use Rattle.pool.specs.Combination.{reduction_from}
 use Rattle.pool.specs.Totals.{once_below, sum_below, sum_list}
 use Rattle.pool.specs.Lawful.{Lawful}
 use Rattle.pool.specs.Holding.{Holding, IsHolding, numbers_of}
 use Rattle.pool.specs.Settled.{numbers_of_all, pieces_of}
 use Rattle.pool.specs.Assembly.{IsFresh, IsNewDeal}
-use Rattle.pool.specs.Inside.Done.{Worker, hands_of, sums_of, parts_of}
+use Rattle.pool.specs.Done.{Worker}
+use Rattle.pool.specs.Inside.Done.{hands_of, sums_of, parts_of}
 use Rattle.pool.specs.Inside.Fanned.{AreReady, AreUnderWay, beginning_at, DidAll, HaveResumed}
 use Rattle.pool.proofs.Fans.{all_at, all_map, did_all, did_under_way}
 use Rattle.pool.proofs.Gather.{gathered_fits, gathered_whole, onto-append, onto_apart, onto_fits, onto_load, onto_weight, sum_list-within, unit_after}

@@ -10,7 +10,8 @@ use Rattle.pool.specs.declared.view.Task.{Task}
 use Rattle.pool.specs.declared.view.Task.TheVariants.{Number, End}
 use Rattle.pool.specs.Dealing.{times, left_after, taken_by}
 use Rattle.pool.specs.Rule.{view_of, tasks, pieces, total, AllBelow, AreSeatedAt, IsSeated, Fits, DealtBy, Dealt, IsAccounted}
-use Rattle.pool.specs.Inside.Rule.{blank, AreKnown, front, rest, TookAt, EmptiedAt, TakenFrom, StolenFrom, lent_view, giving_view, given_view, Up, Apart}
+use Rattle.pool.specs.Steps.{blank, AreKnown, front, rest, TookAt, EmptiedAt, TakenFrom, StolenFrom, lent_view, giving_view, given_view}
+use Rattle.pool.specs.Inside.Steps.{Up, Apart}
 use Rattle.pool.proofs.Machine.{run_accounts, left_step, taken_step, unmade, below_snoc, below_more, goes_on_step, goes_on_none, goes_on_first}
 
 -- Lists

@@ -7,7 +7,8 @@ use Rattle.std.specs.declared.alloc.Global.{Global}
 use Rattle.pool.specs.Dealing.{times, residue_class, left_after, taken_by, GoesOn, AreStepsOf, steps_at}
 use Rattle.pool.specs.Totals.{sum_below}
 use Rattle.pool.specs.Rule.{AllBelow}
-use Rattle.pool.specs.Inside.Rule.{times_in_lists, AreKnown}
+use Rattle.pool.specs.Inside.Steps.{times_in_lists}
+use Rattle.pool.specs.Steps.{AreKnown}
 use Rattle.pool.specs.Seen.{Seen, list}
 use Rattle.pool.specs.Holding.{Holding, IsRound}
 use Rattle.pool.specs.Inside.Looks.{list_in, list_from, history_in, history_from, Reaches, AllReach, HaveOneRun, lists_from, seats_from}

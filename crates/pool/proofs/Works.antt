@@ -6,12 +6,12 @@ use mathlib.Core.Option.{some, some-injective, some-ne-none}
 use lib.ListN.{get_elem?}
 use Rattle.pool.specs.Reduction.{Reduction}
 use Rattle.pool.specs.Dealing.{residue_class, times}
-use Rattle.pool.specs.Inside.Totals.{reduction_from}
+use Rattle.pool.specs.Combination.{reduction_from}
 use Rattle.pool.specs.Totals.{sum_below, sum_list, once_below}
 use Rattle.pool.specs.Lawful.{Lawful}
 use Rattle.pool.specs.Seen.{Seen, list}
 use Rattle.pool.specs.Holding.{Holding, IsHolding, IsRound, Gained, lists_of, numbers_of}
-use Rattle.pool.specs.Inside.Done.{Did, MayGoOn}
+use Rattle.pool.specs.Done.{Did, MayGoOn}
 use Rattle.pool.specs.Fanned.{Follows}
 use Rattle.pool.specs.Answered.{Answers}
 use Rattle.pool.specs.declared.deal.Next.{Next}

@@ -1,11 +1,11 @@
--- What private calls keep and do. No promise rests on it: what a deal, a hand, a book and a call on all hands promise
--- is said in the words of the other files.
+-- What contracts of private calls alone say: no contract of a public call rests on it.
 pub mod Assembly
 pub mod Done
 pub mod Fanned
 pub mod Hands
-pub mod Packing
-pub mod Rule
 pub mod Views
 pub mod Looks
-pub mod Totals
+pub mod Reduction
+pub mod Outcomes
+pub mod Combination
+pub mod Steps

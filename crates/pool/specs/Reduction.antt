@@ -24,10 +24,6 @@ reduction_onto r m n = r.combine m (reduction_below r n)
 abbrev pub piece_weight : {M : Type 0} → Reduction M → ℕ → ℕ
 piece_weight r = λ i. r.weight (r.piece i)
 
--- the load of the piece with this number
-abbrev pub piece_load : {M : Type 0} → Reduction M → ℕ → ℕ
-piece_load r = λ i. r.load (r.piece i)
-
 -- what the pieces below n weigh
 abbrev pub weight_below : {M : Type 0} → Reduction M → ℕ → ℕ
 weight_below r n = sum_below (λ i. r.weight (r.piece i)) n

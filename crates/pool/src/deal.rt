@@ -1,14 +1,17 @@
 //! Hands, which take numbers from their own deque, and then from those of the others.
 ghost use Rattle.std.specs.Prelude.{◌≢◌, length, ◌%◌, ◌↔◌, All, IsTrue, ◌≡◌, ℕ, List, ◌+◌, ◌-◌, ◌<◌, ◌≤◌, true, false, [], ◌∷◌, ◌++◌, MatchOption, IfOk, IfSome, IfNone};
 ghost use Rattle.pool.specs.Seen.{Seen, Took, FoundEmpty, with_seen};
-ghost use Rattle.pool.specs.Inside.Views.{Looked, IsThief};
-ghost use Rattle.pool.specs.Inside.Hands.{Steals, new_holding};
+ghost use Rattle.pool.specs.Inside.Views.{Looked};
+ghost use Rattle.pool.specs.Views.{IsThief};
+ghost use Rattle.pool.specs.Inside.Hands.{Steals};
+ghost use Rattle.pool.specs.Hands.{new_holding};
 ghost use Rattle.pool.specs.Holding.{IsHolding, InOrder};
 ghost use Rattle.pool.specs.Answered.{Answers};
 ghost use Rattle.pool.specs.Inside.Looks.{AllReach, HaveOneRun, KnowsAbove, OneRun, Reaches, seats_from};
 ghost use Rattle.pool.specs.Settled.{AreAll, AllSpent, AreRun, HaveEachOnce, HaveNonePassedOver, HaveNoneTwice, IsRunAt};
 ghost use Rattle.pool.specs.Rule.{AllBelow};
-ghost use Rattle.pool.specs.Inside.Rule.{Apart, giving_view, given_view};
+ghost use Rattle.pool.specs.Inside.Steps.{Apart};
+ghost use Rattle.pool.specs.Steps.{giving_view, given_view};
 ghost use Rattle.crossbeam_deque.specs.Handles.{worker_deque, worker_flavor, worker_view, view as pass_view, IsPassOf};
 
 use crate::protocol::{Dealing, GiveOpen, GiveShut, Lend, Seal, Stolen, Taken, Together};
@@ -33,7 +36,7 @@ pub struct LocalQueue {
 impl Model for LocalQueue {
     ghost use Rattle.std.specs.Prelude.{◌≡◌};
     ghost use Rattle.pool.specs.Seen.{Owned};
-    ghost use Rattle.pool.specs.Inside.Views.{owned_of, IsOwner};
+    ghost use Rattle.pool.specs.Views.{owned_of, IsOwner};
     ghost use Rattle.crossbeam_deque.specs.Handles.{worker_deque, worker_view, worker_flavor};
 
     ghost Value = { Owned };
@@ -55,7 +58,7 @@ pub struct StealHandle {
 impl Model for StealHandle {
     ghost use Rattle.std.specs.Prelude.{◌≡◌};
     ghost use Rattle.pool.specs.Seen.{Seen};
-    ghost use Rattle.pool.specs.Inside.Views.{seen_of, IsThief};
+    ghost use Rattle.pool.specs.Views.{seen_of, IsThief};
     ghost use Rattle.crossbeam_deque.specs.Handles.{view as pass_view, IsPassOf, stealer_deque, stealer_flavor};
 
     ghost Value = { Seen };

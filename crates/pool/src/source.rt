@@ -2,7 +2,7 @@
 ghost use Rattle.std.specs.Prelude.{◌≡◌, ℕ, ◌+◌, ◌-◌, ◌<◌, ◌≤◌, ◌^◌, true, false, [], ◌∷◌, ◌++◌, IfOk, OnOk};
 ghost use Rattle.pool.specs.Dealing.{residue_class};
 ghost use Rattle.pool.specs.Seen.{Seen, Owned};
-ghost use Rattle.pool.specs.Inside.Views.{Offer, next_seat, offer_with, owned_first};
+ghost use Rattle.pool.specs.Views.{Offer, next_seat, offer_with, owned_first};
 
 use crate::deal::{Deque, LocalQueue, StealHandle};
 use crate::protocol::{Fill, Mark, Seal, Seat};
@@ -48,7 +48,7 @@ pub struct Source {
 impl Model for Source {
     ghost use Rattle.std.specs.Prelude.{◌≡◌, ◌-◌, ◌+◌, ◌<◌, ◌≤◌, true, false, [], ◌∷◌};
     ghost use Rattle.pool.specs.Rule.{view_of};
-    ghost use Rattle.pool.specs.Inside.Views.{Offer, offer_of};
+    ghost use Rattle.pool.specs.Views.{Offer, offer_of};
     ghost use Rattle.crossbeam_deque.specs.Handles.{worker_deque, worker_view, worker_flavor};
 
     ghost Value = { Offer };

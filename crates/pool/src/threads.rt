@@ -2,10 +2,11 @@
 ghost use Rattle.std.specs.Prelude.{◌≡◌, ℕ, ◌+◌, ◌-◌, ◌^◌, ◌<◌, ◌≤◌, ◌⊎◌, ◌++◌, ◌∷◌, [], All, IfOk, IfErr, IsOkAnd, MatchResult, vec_len, map, min};
 ghost use Rattle.pool.specs.Totals.{once_below};
 ghost use Rattle.pool.specs.Reduction.{load_below, load_onto, piece_weight, weight_with};
-ghost use Rattle.pool.specs.Inside.Totals.{combination_of};
-ghost use Rattle.pool.specs.Outcomes.{DecidesBelow, DecidesOf, DecidesOnto};
+ghost use Rattle.pool.specs.Inside.Combination.{combination_of};
+ghost use Rattle.pool.specs.Outcomes.{DecidesBelow, DecidesOnto};
+ghost use Rattle.pool.specs.Inside.Outcomes.{DecidesOf};
 ghost use Rattle.pool.specs.Dealing.{times};
-ghost use Rattle.pool.specs.Inside.Rule.{UpTo};
+ghost use Rattle.pool.specs.Inside.Steps.{UpTo};
 ghost use Rattle.pool.specs.Settled.{AreAll, AllSpent, AreRun, HaveNoneTwice, numbers_of_all, pieces_of};
 ghost use Rattle.pool.specs.Inside.Done.{hands_of, parts_of, sums_of};
 ghost use Rattle.pool.specs.Inside.Fanned.{AreReady, HaveBegunAndResumed, HaveResumed, MayResumeAll, NeedNoThread};

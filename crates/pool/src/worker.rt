@@ -1,7 +1,8 @@
 //! One worker: it takes pieces until its hand is spent or the book is above a number, and reports their weights.
 ghost use Rattle.std.specs.Prelude.{◌≡◌, ℕ, ◌+◌, ◌^◌, ◌<◌, ◌-◌, true, IfOk, IfSome};
-ghost use Rattle.pool.specs.Inside.Done.{HasResumed, MayResume};
-ghost use Rattle.pool.specs.Reduction.{piece_load, piece_weight};
+ghost use Rattle.pool.specs.Done.{HasResumed, MayResume};
+ghost use Rattle.pool.specs.Inside.Reduction.{piece_load};
+ghost use Rattle.pool.specs.Reduction.{piece_weight};
 
 use crate::book::{Book, Share};
 use crate::deal::{Hand, Next};
@@ -33,7 +34,7 @@ pub struct Done<P, L: Ledger> {
 }
 
 impl<P, L: Ledger> Model for Done<P, L> {
-    ghost use Rattle.pool.specs.Inside.Done.{Worker};
+    ghost use Rattle.pool.specs.Done.{Worker};
 
     ghost Value = { Worker P };
 

@@ -6,7 +6,7 @@ use Rattle.semantics.specs.declared.token.Token.{Token}
 use Rattle.semantics.specs.declared.token.Token.TheVariants as tokens
 use Rattle.semantics.specs.declared.token.Word.{Word}
 use Rattle.semantics.specs.declared.token.Sign.TheVariants as s
-use Rattle.query_lexer.specs.Inside.Words.{word_text}
+use Rattle.query_lexer.specs.Words.{word_text}
 use Rattle.semantics.specs.Canonical.{separated_texts, comma_list, in_brackets}
 use Rattle.query.proofs.Good.{Each}
 use Rattle.query.proofs.Onto.{Onto, others_onto, list_onto, brackets_onto}

@@ -16,7 +16,7 @@ use Rattle.semantics.specs.declared.token.Word.{Word}
 use Rattle.semantics.specs.declared.token.Word.TheVariants as w
 use Rattle.semantics.specs.declared.token.Sign.TheVariants as s
 use Rattle.semantics.specs.Words.{continues_word, is_word, reserved_word}
-use Rattle.query_lexer.specs.Inside.Words.{word_text}
+use Rattle.query_lexer.specs.Words.{word_text}
 use Rattle.semantics.specs.Tokens.{begins_with, is_digits, IsToken, SpellsFrom}
 use Rattle.query_lexer.specs.Steps.{token_at, sign_at}
 use Rattle.query_lexer.proofs.Digits.{own}

@@ -8,7 +8,8 @@ use Rattle.semantics.specs.Columns.{Field}
 use Rattle.semantics.specs.Syntax.{PredicateForm}
 use Rattle.query_eval.specs.declared.condition.Condition.{Condition}
 use Rattle.query_eval.specs.Meaning.{condition_truth, is_safe}
-use Rattle.query_eval.specs.Binding.{AreConditionsOf, GivesPredicate, IsConditionOf, IsSafeWhereTyped, record_scope}
+use Rattle.query_eval.specs.Binding.{AreConditionsOf, GivesPredicate, IsConditionOf, IsSafeWhereTyped}
+use Rattle.query_eval.specs.Inside.Binding.{record_scope}
 use Rattle.query_eval.proofs.Safety.{record-values}
 
 first_holds : (a b : Bool) → (a && b) ≡ true → a ≡ true

@@ -23,7 +23,8 @@ use Rattle.query_typecheck.specs.Typing.{IsOfOneKind, IsTypedExpression, IsTyped
 use Rattle.semantics.specs.Types.{expression_kind, literal_kind, operand_kind}
 use Rattle.semantics.specs.Conditions.{column_value, record_value, literal_value, operand_value}
 use Rattle.query_eval.specs.declared.condition.Source.{Source}
-use Rattle.query_eval.specs.Binding.{AreValuesOf, GivesOperand, ScopeForm, record_scope}
+use Rattle.query_eval.specs.Binding.{AreValuesOf, GivesOperand, ScopeForm}
+use Rattle.query_eval.specs.Inside.Binding.{record_scope}
 use Rattle.query_eval.specs.Meaning.{comparable, is_of, is_there, is_truth_value, source_value}
 
 pub comparable-of : (k : Kind) (a b : Datum) → is_of k a ≡ true → is_of k b ≡ true → comparable a b ≡ true

@@ -1,21 +1,19 @@
--- What is made of a predicate whose names are resolved. Contracts within the language's crates, and private ones of
--- report_rows, speak of it.
-use Rattle.std.specs.Prelude.{◌≡◌, ℕ, ⊤, Bool, true, Option, Some, None, List, [], ◌∷◌, length, map}
-use Rattle.std.specs.List.{list_all}
+-- What is made of a predicate whose names are resolved.
+use Rattle.std.specs.Prelude.{◌≡◌, ℕ, ⊤, Bool, true, Option, Some, None, List, ◌∷◌, length, []}
 use Rattle.semantics.specs.declared.kind.Kind.{Kind}
 use Rattle.semantics.specs.declared.truth.Truth.{Truth}
 use Rattle.semantics.specs.declared.truth.Truth.TheVariants.{True}
 use Rattle.semantics.specs.Values.{Datum}
 use Rattle.semantics.specs.Records.{Fits}
 use Rattle.semantics.specs.Columns.{Field}
-use Rattle.semantics.specs.Syntax.{ExpressionForm, OperandForm, PredicateForm, PredicateForms, expression}
+use Rattle.semantics.specs.Syntax.{ExpressionForm, OperandForm, PredicateForm, expression}
 use Rattle.semantics.specs.Types.{expression_kind}
 use Rattle.query_typecheck.specs.declared.scope.Clause.{Clause}
 use Rattle.query_typecheck.specs.declared.scope.Clause.TheVariants as clause
-use Rattle.query_typecheck.specs.Typing.{IsTypedExpression, IsTypedPredicate, AreTypedParts, IsTypedClause}
+use Rattle.query_typecheck.specs.Typing.{IsTypedExpression, IsTypedPredicate, IsTypedClause}
 use Rattle.query_eval.specs.declared.condition.Source.{Source}
 use Rattle.query_eval.specs.declared.condition.Condition.{Condition}
-use Rattle.semantics.specs.Conditions.{Valuation, operand_value, truth, truths, record_value, where_truth}
+use Rattle.semantics.specs.Conditions.{Valuation, operand_value, truth, where_truth}
 use Rattle.query_eval.specs.Meaning.{condition_truth, is_of, is_safe, is_there, source_value}
 
 -- ---- under a scope
@@ -27,10 +25,6 @@ pub record ScopeForm : Type 0 where
   pub clause : Clause
   pub count : ℕ
   pub value : List Datum → Valuation
-
--- In WHERE and in FILTER the values are those of a record.
-abbrev pub record_scope : List Field → ScopeForm
-record_scope fields = record { fields = fields; clause = clause.Where; count = length fields; value = record_value fields }
 
 -- Values are those of a scope where there are as many as it has, and each expression that is typed in its clause has a
 -- value of its type, or NULL.
@@ -56,15 +50,6 @@ GivesPredicate scope p c = (values : List Datum) → condition_truth c values �
 abbrev pub IsSafeWhereTyped : ScopeForm → PredicateForm → Condition → Type 0
 IsSafeWhereTyped scope p c =
     (grouped : List ℕ) → IsTypedPredicate scope.fields grouped scope.clause p → (values : List Datum) → AreValuesOf scope values → is_safe c values ≡ true
-
--- the same of the parts of an OR or an AND
-abbrev pub GivesParts : ScopeForm → PredicateForms → List Condition → Type 0
-GivesParts scope ps cs = (values : List Datum) → map (λ truth. truth values) (map condition_truth cs) ≡ truths (scope.value values) ps
-
-abbrev pub AreSafeWhereTyped : ScopeForm → PredicateForms → List Condition → Type 0
-AreSafeWhereTyped scope ps cs =
-    (grouped : List ℕ) → AreTypedParts scope.fields grouped scope.clause ps → (values : List Datum) → AreValuesOf scope values
-    → list_all (λ safe. safe values) (map is_safe cs) ≡ true
 
 -- ---- WHERE and FILTER
 

@@ -5,7 +5,8 @@ ghost use Rattle.values.specs.Datum.{datum_of};
 ghost use Rattle.semantics.specs.Syntax.{between, column, compare, member, null_test, predicate_forms};
 ghost use Rattle.query_ast.specs.Syntax.{operand_form, predicate_form};
 ghost use Rattle.semantics.specs.Conditions.{literal_value};
-ghost use Rattle.query_eval.specs.Binding.{AreSafeWhereTyped, GivesOperand, GivesParts, GivesPredicate, IsSafeWhereTyped};
+ghost use Rattle.query_eval.specs.Inside.Binding.{AreSafeWhereTyped, GivesParts};
+ghost use Rattle.query_eval.specs.Binding.{GivesOperand, GivesPredicate, IsSafeWhereTyped};
 
 use crate::condition::{Condition, Source};
 use crate::scope::Scope;

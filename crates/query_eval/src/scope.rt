@@ -37,7 +37,7 @@ pub(crate) struct RecordScope<'a> {
 
 impl Scope for RecordScope<'_> {
     ghost use Rattle.values.specs.Schema.{fields_of};
-    ghost use Rattle.query_eval.specs.Binding.{record_scope};
+    ghost use Rattle.query_eval.specs.Inside.Binding.{record_scope};
 
     ghost form = { λ scope. record_scope (fields_of scope.columns.now) };
 

@@ -3,7 +3,8 @@ use Rattle.std.proofs.Common.{Bool, true, false, cond, eqb, eq-eqb, ◌≡◌, �
 use Rattle.std.proofs.lemmas.Bool.{eqb-true}
 use Rattle.std.proofs.lemmas.Bool.Decides.{nat_tests}
 use Rattle.semantics.specs.Words.{with_quotes_doubled}
-use Rattle.query_lexer.specs.Steps.{behind, quoted_at, with_bytes}
+use Rattle.query_lexer.specs.Steps.{behind, quoted_at}
+use Rattle.query_lexer.specs.Inside.Steps.{with_bytes}
 
 not_eqb : (a b : ℕ) → a ≢ b → eqb a b ≡ false
 not_eqb a b h = grind (arith, nat_tests)

@@ -1,7 +1,8 @@
 -- Steps of the loop over a quoted text.
 use Rattle.std.proofs.Common.{◌≡◌, ℕ, ◌∷◌, [], ◌++◌, List, sym, refl, ap, Option, Some, None, ◌∙◌}
 use Rattle.std.proofs.lemmas.List.{append-nil}
-use Rattle.query_lexer.specs.Steps.{behind, quoted_at, with_bytes}
+use Rattle.query_lexer.specs.Steps.{behind, quoted_at}
+use Rattle.query_lexer.specs.Inside.Steps.{with_bytes}
 use Rattle.query_lexer.proofs.Doubling.{HasNone, quoted_piece, quoted_close, quoted_twice, quoted_open, bytes_front}
 
 abbrev Read : Type 0

@@ -4,7 +4,7 @@ use Rattle.std.specs.Str.{str_eq_ignore_ascii_case}
 use Rattle.semantics.specs.declared.token.Word.{Word}
 use Rattle.semantics.specs.declared.token.Word.TheVariants as w
 use Rattle.semantics.specs.Words.{reserved_word, reserved_words}
-use Rattle.query_lexer.specs.Inside.Words.{word_text}
+use Rattle.query_lexer.specs.Words.{word_text}
 
 abbrev first : List (List ℕ) → List ℕ
 first [] = []

@@ -16,7 +16,8 @@ use Rattle.semantics.specs.declared.token.Sign.TheVariants as s
 use Rattle.semantics.specs.Words.{begins_word, continues_word, is_word, reserved_word, with_quotes_doubled, quoted_text}
 use Rattle.semantics.specs.Tokens.{begins_with, is_digits, sign_text, IsLongestSign, IsToken}
 use Rattle.query_lexer.specs.Options.{◌>>=◌, choose}
-use Rattle.query_lexer.specs.Steps.{behind, sign_at, order_at, sign_behind_less, sign_behind_greater, word_of, word_at, quoted_at, with_bytes, name_of, name_behind, text_behind, digits_at, number_of, number_behind, number_at, other_at, token_at}
+use Rattle.query_lexer.specs.Steps.{behind, sign_at, order_at, sign_behind_less, sign_behind_greater, word_of, word_at, quoted_at, name_of, name_behind, text_behind, digits_at, number_of, number_behind, number_at, other_at, token_at}
+use Rattle.query_lexer.specs.Inside.Steps.{with_bytes}
 use Rattle.query_lexer.specs.Steps
 use Rattle.query_lexer.proofs.Cut.{begins_goes}
 use Rattle.query_lexer.proofs.Doubling.{quoted_other, quoted_close, quoted_twice, quoted_nil}

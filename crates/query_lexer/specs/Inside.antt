@@ -1,2 +1,2 @@
--- What private calls compute. No promise rests on it.
-pub mod Words
+-- What contracts of private calls alone say: no contract of a public call rests on it.
+pub mod Steps

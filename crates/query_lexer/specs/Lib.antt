@@ -1,3 +1,4 @@
-pub mod Inside
 pub mod Options
 pub mod Steps
+pub mod Words
+pub mod Inside

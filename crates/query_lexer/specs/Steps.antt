@@ -1,6 +1,6 @@
 -- What the private functions of this crate read in front of a text, one definition for each function, as it computes it.
 -- No public contract rests on this file: what a text spells is said in Spelling.
-use Rattle.std.specs.Prelude.{ℕ, ℤ, pos, List, [], ◌∷◌, ◌++◌, take, drop, Option, Some, None, Bool, true, false, ◌==◌, ◌||◌, ◌^◌, nat_le, nat_lt, cond}
+use Rattle.std.specs.Prelude.{ℕ, ℤ, pos, List, ◌∷◌, take, drop, Option, Some, None, Bool, true, false, ◌==◌, ◌||◌, ◌^◌, nat_le, nat_lt, cond, []}
 use Rattle.std.specs.List.{prefix_len}
 use Rattle.std.specs.Char.{is_ascii_digit}
 use Rattle.std.specs.Str.Parse.{digits_value}
@@ -65,10 +65,6 @@ quoted_at q (b ∷ c ∷ bs) =
     cond (b == q)
     (cond (c == q) (quoted_at q bs >>= λ x. Some (q ∷ x.0, x.1)) (Some ([], c ∷ bs)))
     (quoted_at q (c ∷ bs) >>= λ x. Some (b ∷ x.0, x.1))
-
--- What is quoted, behind bytes that were read before.
-abbrev pub with_bytes : List ℕ → Option (List ℕ × List ℕ) → Option (List ℕ × List ℕ)
-with_bytes front read = read >>= λ x. Some (front ++ x.0, x.1)
 
 -- A quoted name has one byte at least.
 abbrev pub name_of : List ℕ → Option Token

@@ -2,7 +2,7 @@
 
 ghost use Rattle.std.specs.Prelude.{◌≡◌};
 ghost use Rattle.semantics.specs.Words.{reserved_word, begins_word, continues_word, is_word};
-ghost use Rattle.query_lexer.specs.Inside.Words.{word_text};
+ghost use Rattle.query_lexer.specs.Words.{word_text};
 ghost use Rattle.std.specs.List.{find, list_all, prefix_len};
 ghost use Rattle.semantics.specs.Tokens.{begins_with};
 ghost use Rattle.std.specs.Str.{str_eq_ignore_ascii_case};

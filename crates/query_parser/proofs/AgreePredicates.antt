@@ -6,13 +6,13 @@ use Rattle.semantics.specs.declared.token.Word.TheVariants as w
 use Rattle.semantics.specs.declared.token.Sign.TheVariants as s
 use Rattle.semantics.specs.Syntax.{OperandForm}
 use Rattle.semantics.specs.Leaves.{Limits}
-use Rattle.query_parser.specs.Stops.{Stop}
-use Rattle.query_parser.specs.Fronts.{is_word, is_sign, after}
-use Rattle.query_parser.specs.Steps.{unexpected_at, over, name_at}
-use Rattle.query_parser.specs.LeafSteps.{aggregate_at, literal_at, op_at}
-use Rattle.query_parser.specs.ExpressionSteps.{Inside, filter_at, function_at, expression_at, begins_expression}
-use Rattle.query_parser.specs.AtomSteps.{operand_at, member_after, between_after, negated_after, atom_after, tested_atom_at}
-use Rattle.query_parser.specs.PredicateSteps.{test_at, negation_at, conjunction_at, disjunction_at, predicate_at, any_front, has_level, inside_of}
+use Rattle.query_parser.specs.Inside.Stops.{Stop}
+use Rattle.query_parser.specs.Inside.Fronts.{is_word, is_sign, after}
+use Rattle.query_parser.specs.Inside.Steps.{unexpected_at, over, name_at}
+use Rattle.query_parser.specs.Inside.LeafSteps.{aggregate_at, literal_at, op_at}
+use Rattle.query_parser.specs.Inside.ExpressionSteps.{Inside, filter_at, function_at, expression_at, begins_expression}
+use Rattle.query_parser.specs.Inside.AtomSteps.{operand_at, member_after, between_after, negated_after, atom_after, tested_atom_at}
+use Rattle.query_parser.specs.Inside.PredicateSteps.{test_at, negation_at, conjunction_at, disjunction_at, predicate_at, any_front, has_level, inside_of}
 use Rattle.query_parser.proofs.Agree.{Wider, Agrees, agrees_bind, agrees_choose, agrees_all, arguments_agree, literals_agree}
 
 -- Where no level is left, it is too much.

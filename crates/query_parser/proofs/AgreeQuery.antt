@@ -6,13 +6,13 @@ use Rattle.semantics.specs.declared.token.Word.TheVariants as w
 use Rattle.semantics.specs.declared.token.Sign.TheVariants as s
 use Rattle.semantics.specs.Syntax.{ElementForm}
 use Rattle.semantics.specs.Leaves.{Limits}
-use Rattle.query_parser.specs.Fronts.{is_word, is_sign, after}
-use Rattle.query_parser.specs.Steps.{Reader, unexpected_at, found_or_unexpected}
-use Rattle.query_parser.specs.ExpressionSteps.{begins_expression}
-use Rattle.query_parser.specs.PredicateSteps.{inside_of, any_front}
-use Rattle.query_parser.specs.GroupSteps.{all_at, enclosed_at, element_at, sets_at, group_at}
-use Rattle.query_parser.specs.KeySteps.{key_at, keys_at}
-use Rattle.query_parser.specs.QuerySteps.{item_at, items_at, clause_at, set_quantifier_at, elements_at, groups_at, select_at, records_at, rows_at, query_at, whole_at}
+use Rattle.query_parser.specs.Inside.Fronts.{is_word, is_sign, after}
+use Rattle.query_parser.specs.Inside.Steps.{Reader, unexpected_at, found_or_unexpected}
+use Rattle.query_parser.specs.Inside.ExpressionSteps.{begins_expression}
+use Rattle.query_parser.specs.Inside.PredicateSteps.{inside_of, any_front}
+use Rattle.query_parser.specs.Inside.GroupSteps.{all_at, enclosed_at, element_at, sets_at, group_at}
+use Rattle.query_parser.specs.Inside.KeySteps.{key_at, keys_at}
+use Rattle.query_parser.specs.Inside.QuerySteps.{item_at, items_at, clause_at, set_quantifier_at, elements_at, groups_at, select_at, records_at, rows_at, query_at, whole_at}
 use Rattle.query_parser.proofs.Agree.{Wider, Agrees, agrees_bind, agrees_choose, agrees_all, agrees_listed}
 use Rattle.query_parser.proofs.AgreePredicates.{predicate_agrees, inside_agrees, expression_stuck}
 

@@ -13,12 +13,12 @@ use Rattle.query_ast.specs.Syntax.{tree_form}
 use Rattle.query_parser.specs.declared.fault.GrammarFault.{GrammarFault}
 use Rattle.query_parser.specs.declared.fault.GrammarFault.TheVariants as faults
 use Rattle.semantics.specs.Leaves.{Limits, standard, IsOptional}
-use Rattle.query_parser.specs.Fronts.{is_word, is_sign, after}
-use Rattle.query_parser.specs.Steps.{Gives, name_at}
-use Rattle.query_parser.specs.GroupSteps.{group_at}
-use Rattle.query_parser.specs.QuerySteps.{alias_at, item_at, items_at, from_at, clause_at, groups_at, select_at, records_at, rows_at, query_at, whole_at, set_quantifier_at, elements_at}
-use Rattle.query_parser.specs.ExpressionSteps.{expression_at, begins_expression}
-use Rattle.query_parser.specs.PredicateSteps.{inside_of, any_front}
+use Rattle.query_parser.specs.Inside.Fronts.{is_word, is_sign, after}
+use Rattle.query_parser.specs.Inside.Steps.{Gives, name_at}
+use Rattle.query_parser.specs.Inside.GroupSteps.{group_at}
+use Rattle.query_parser.specs.Inside.QuerySteps.{alias_at, item_at, items_at, from_at, clause_at, groups_at, select_at, records_at, rows_at, query_at, whole_at, set_quantifier_at, elements_at}
+use Rattle.query_parser.specs.Inside.ExpressionSteps.{expression_at, begins_expression}
+use Rattle.query_parser.specs.Inside.PredicateSteps.{inside_of, any_front}
 use Rattle.semantics.specs.Productions.{IsExpression, IsPredicate}
 use Rattle.semantics.specs.Grammar.{IsItem, IsGroup, IsGroupBy, IsOrderBy, IsQuery, DerivesWithin, IsClause}
 use Rattle.query_parser.proofs.Agree.{Wider, wider_same}

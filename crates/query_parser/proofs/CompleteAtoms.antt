@@ -10,11 +10,11 @@ use Rattle.semantics.specs.declared.aggregate.Aggregate.{Aggregate}
 use Rattle.semantics.specs.declared.literal.Literal.{Literal}
 use Rattle.semantics.specs.Syntax.{ExpressionForm, OperandForm, PredicateForm, truth_test, compare, between, member, null_test, column}
 use Rattle.semantics.specs.Leaves.{Limits, Derivation, IsRepeated, IsAggregate, IsLiteral, IsOp, IsTruthValue, IsOptional}
-use Rattle.query_parser.specs.Fronts.{is_word, is_sign, after}
-use Rattle.query_parser.specs.LeafSteps.{literal_at, op_at}
-use Rattle.query_parser.specs.Steps.{name_at}
-use Rattle.query_parser.specs.ExpressionSteps.{Inside, expression_at}
-use Rattle.query_parser.specs.AtomSteps.{operand_at, member_after, between_after, negated_after, column_of, atom_after, test_after, is_after, tested_atom_at}
+use Rattle.query_parser.specs.Inside.Fronts.{is_word, is_sign, after}
+use Rattle.query_parser.specs.Inside.LeafSteps.{literal_at, op_at}
+use Rattle.query_parser.specs.Inside.Steps.{name_at}
+use Rattle.query_parser.specs.Inside.ExpressionSteps.{Inside, expression_at}
+use Rattle.query_parser.specs.Inside.AtomSteps.{operand_at, member_after, between_after, negated_after, column_of, atom_after, test_after, is_after, tested_atom_at}
 use Rattle.semantics.specs.Productions.{IsFunction, IsExpression, IsOperand, IsAtom}
 use Rattle.query_parser.proofs.Agree.{Wider}
 use Rattle.query_parser.proofs.CompleteLists.{Shrinks, repeated_short}

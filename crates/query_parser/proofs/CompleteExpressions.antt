@@ -6,9 +6,9 @@ use Rattle.semantics.specs.declared.token.Word.TheVariants as w
 use Rattle.semantics.specs.declared.token.Sign.TheVariants as s
 use Rattle.semantics.specs.Syntax.{ExpressionForm, FunctionForm, PredicateForm}
 use Rattle.semantics.specs.Leaves.{Limits, Derivation, IsName}
-use Rattle.query_parser.specs.Fronts.{is_word, after}
-use Rattle.query_parser.specs.Steps.{name_at}
-use Rattle.query_parser.specs.ExpressionSteps.{Inside, filter_at, function_at, expression_at}
+use Rattle.query_parser.specs.Inside.Fronts.{is_word, after}
+use Rattle.query_parser.specs.Inside.Steps.{name_at}
+use Rattle.query_parser.specs.Inside.ExpressionSteps.{Inside, filter_at, function_at, expression_at}
 use Rattle.semantics.specs.Productions.{IsFunction, IsExpression}
 use Rattle.query_parser.proofs.Agree.{Wider}
 use Rattle.query_parser.proofs.CompleteLists.{Shrinks, repeated_short}

@@ -5,13 +5,13 @@ use Rattle.semantics.specs.declared.token.Token.TheVariants as tokens
 use Rattle.semantics.specs.declared.token.Word.TheVariants as w
 use Rattle.semantics.specs.declared.token.Sign.TheVariants as s
 use Rattle.semantics.specs.Syntax.{ElementForm, sets, element_forms}
-use Rattle.query_parser.specs.Fronts.{is_word, is_sign, after}
-use Rattle.query_parser.specs.Steps.{Reader, found_or_unexpected, name_at, begins_name}
-use Rattle.query_parser.specs.PredicateSteps.{any_front}
+use Rattle.query_parser.specs.Inside.Fronts.{is_word, is_sign, after}
+use Rattle.query_parser.specs.Inside.Steps.{Reader, found_or_unexpected, name_at, begins_name}
+use Rattle.query_parser.specs.Inside.PredicateSteps.{any_front}
 use Rattle.semantics.specs.Leaves.{Derivation, IsRepeated, IsName}
 use Rattle.query_parser.proofs.CompleteLists.{Shrinks, repeated_short, unlimited_c}
 use Rattle.query_parser.proofs.CompleteLeaves.{name_c, name_short}
-use Rattle.query_parser.specs.GroupSteps.{enclosed_at, begins_unit, unit_at, units_at, nothing_at, set_at, element_at, sets_at, group_at}
+use Rattle.query_parser.specs.Inside.GroupSteps.{enclosed_at, begins_unit, unit_at, units_at, nothing_at, set_at, element_at, sets_at, group_at}
 use Rattle.semantics.specs.Grammar.{IsUnit, IsSet, IsElement, IsGroup}
 
 -- Parts in brackets that are read whatever stands behind them, as many as there are.

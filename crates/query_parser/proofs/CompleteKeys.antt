@@ -6,15 +6,15 @@ use Rattle.semantics.specs.declared.token.Word.TheVariants as w
 use Rattle.semantics.specs.declared.token.Sign.TheVariants as s
 use Rattle.semantics.specs.Syntax.{KeyForm}
 use Rattle.semantics.specs.Leaves.{Limits}
-use Rattle.query_parser.specs.Fronts.{is_word, is_sign, after}
+use Rattle.query_parser.specs.Inside.Fronts.{is_word, is_sign, after}
 use Rattle.query_parser.proofs.Agree.{Wider}
 use Rattle.query_parser.proofs.CompleteLists.{Shrinks, repeated_follow, unlimited_c}
 use Rattle.query_parser.proofs.CompleteExpressions.{EndsFunction, expression_c, expression_short}
 use Rattle.query_parser.proofs.CompletePredicates.{predicate_short, bracketed_c}
-use Rattle.query_parser.specs.PredicateSteps.{inside_of}
-use Rattle.query_parser.specs.ExpressionSteps.{begins_expression}
+use Rattle.query_parser.specs.Inside.PredicateSteps.{inside_of}
+use Rattle.query_parser.specs.Inside.ExpressionSteps.{begins_expression}
 use Rattle.semantics.specs.Productions.{IsPredicate}
-use Rattle.query_parser.specs.KeySteps.{direction_at, null_ordering_at, key_at, keys_at}
+use Rattle.query_parser.specs.Inside.KeySteps.{direction_at, null_ordering_at, key_at, keys_at}
 use Rattle.semantics.specs.Grammar.{IsDirection, IsNullOrdering, IsKey, IsOrderBy}
 
 -- Neither ASC nor DESC goes on a direction that ends here.

@@ -8,10 +8,10 @@ use Rattle.semantics.specs.declared.token.Word.TheVariants as w
 use Rattle.semantics.specs.declared.token.Sign.TheVariants as s
 use Rattle.semantics.specs.declared.aggregate.Aggregate.{Aggregate}
 use Rattle.semantics.specs.declared.literal.Literal.{Literal}
-use Rattle.query_parser.specs.Fronts.{is_word, after}
+use Rattle.query_parser.specs.Inside.Fronts.{is_word, after}
 use Rattle.semantics.specs.Leaves.{IsRepeated, IsName, IsAggregate, IsLiteral, IsOp, IsTruthValue, IsOptional}
-use Rattle.query_parser.specs.Steps.{found_or_unexpected, name_at, begins_name}
-use Rattle.query_parser.specs.LeafSteps.{closed_name_at, argument_at, counted_name_at, count_at, aggregate_at, arguments_at, literal_at, begins_literal, literals_at, op_at, truth_at, mark_at}
+use Rattle.query_parser.specs.Inside.Steps.{found_or_unexpected, name_at, begins_name}
+use Rattle.query_parser.specs.Inside.LeafSteps.{closed_name_at, argument_at, counted_name_at, count_at, aggregate_at, arguments_at, literal_at, begins_literal, literals_at, op_at, truth_at, mark_at}
 use Rattle.query_parser.proofs.CompleteLists.{Shrinks, bracketed_c}
 
 -- ---- names and set functions

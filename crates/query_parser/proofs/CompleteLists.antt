@@ -3,8 +3,8 @@ use Rattle.std.proofs.Common.{arith, length, ◌+◌, ◌≤◌, ◌≡◌, ℕ,
 use Rattle.semantics.specs.declared.token.Token.{Token}
 use Rattle.semantics.specs.declared.token.Token.TheVariants as tokens
 use Rattle.semantics.specs.declared.token.Sign.TheVariants as s
-use Rattle.query_parser.specs.Fronts.{is_sign, after}
-use Rattle.query_parser.specs.Steps.{Reader, more, bracketed_at}
+use Rattle.query_parser.specs.Inside.Fronts.{is_sign, after}
+use Rattle.query_parser.specs.Inside.Steps.{Reader, more, bracketed_at}
 use Rattle.semantics.specs.Leaves.{Derivation, IsRepeated}
 
 -- A part takes no less than nothing.

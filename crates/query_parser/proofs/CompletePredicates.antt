@@ -6,10 +6,10 @@ use Rattle.semantics.specs.declared.token.Word.TheVariants as w
 use Rattle.semantics.specs.declared.token.Sign.TheVariants as s
 use Rattle.semantics.specs.Syntax.{PredicateForm}
 use Rattle.semantics.specs.Leaves.{Limits, Derivation}
-use Rattle.query_parser.specs.Fronts.{is_word, after}
-use Rattle.query_parser.specs.LeafSteps.{op_at}
-use Rattle.query_parser.specs.ExpressionSteps.{Inside}
-use Rattle.query_parser.specs.PredicateSteps.{test_at, negation_at, conjunction_at, disjunction_at, predicate_at, any_front, has_level, inside_of}
+use Rattle.query_parser.specs.Inside.Fronts.{is_word, after}
+use Rattle.query_parser.specs.Inside.LeafSteps.{op_at}
+use Rattle.query_parser.specs.Inside.ExpressionSteps.{Inside}
+use Rattle.query_parser.specs.Inside.PredicateSteps.{test_at, negation_at, conjunction_at, disjunction_at, predicate_at, any_front, has_level, inside_of}
 use Rattle.semantics.specs.Productions.{IsPrimary, IsTest, IsNegation, IsConjunction, IsDisjunction, IsPredicate}
 use Rattle.query_parser.proofs.Agree.{Wider}
 use Rattle.query_parser.proofs.CompleteLists.{Shrinks, repeated_short, repeated_follow, unlimited_c}

@@ -15,11 +15,11 @@ use Rattle.semantics.specs.Leaves.{Limits, standard}
 use Rattle.semantics.specs.Grammar.{DerivesWithin}
 use Rattle.semantics.specs.Prefixes.{BeginsWithin, Begins, KeepsLimits, IsUnexpected, IsOverLimit}
 use Rattle.query_parser.specs.declared.fault.GrammarFault.{GrammarFault}
-use Rattle.query_parser.specs.Stops.{Stop}
+use Rattle.query_parser.specs.Inside.Stops.{Stop}
 use Rattle.query_parser.specs.declared.fault.GrammarFault.TheVariants as faults
-use Rattle.query_parser.specs.Stops as halts
-use Rattle.query_parser.specs.Steps.{Gives}
-use Rattle.query_parser.specs.QuerySteps.{whole_at}
+use Rattle.query_parser.specs.Inside.Stops as halts
+use Rattle.query_parser.specs.Inside.Steps.{Gives}
+use Rattle.query_parser.specs.Inside.QuerySteps.{whole_at}
 use Rattle.query_parser.proofs.LocalQuery.{left_within, continues_none_at, derives_none_at, begins_none_at}
 use Rattle.query_parser.proofs.ViableWhole.{read_derives, begins_unexpected, keeps_unexpected, over_front, exceeds}
 

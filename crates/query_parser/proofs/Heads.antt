@@ -7,7 +7,7 @@ use Rattle.semantics.specs.declared.token.Word.{Word}
 use Rattle.semantics.specs.declared.token.Word.TheVariants as w
 use Rattle.semantics.specs.declared.token.Sign.{Sign}
 use Rattle.semantics.specs.declared.token.Sign.TheVariants as s
-use Rattle.query_parser.specs.Fronts.{word_code, sign_code, is_word, is_sign, after}
+use Rattle.query_parser.specs.Inside.Fronts.{word_code, sign_code, is_word, is_sign, after}
 
 -- The word at a place among all words.
 word_with : ℕ → Word

@@ -4,11 +4,11 @@ use Rattle.semantics.specs.declared.token.Token.{Token}
 use Rattle.semantics.specs.declared.token.Sign.TheVariants as s
 use Rattle.semantics.specs.Leaves.{Limits}
 use Rattle.query_parser.specs.declared.fault.GrammarFault.TheVariants as faults
-use Rattle.query_parser.specs.Fronts.{is_sign, after}
-use Rattle.query_parser.specs.Steps.{Fails, found_or_unexpected}
-use Rattle.query_parser.specs.ExpressionSteps.{filter_at}
-use Rattle.query_parser.specs.PredicateSteps.{predicate_at, has_level, inside_of}
-use Rattle.query_parser.specs.GroupSteps.{sets_at}
+use Rattle.query_parser.specs.Inside.Fronts.{is_sign, after}
+use Rattle.query_parser.specs.Inside.Steps.{Fails, found_or_unexpected}
+use Rattle.query_parser.specs.Inside.ExpressionSteps.{filter_at}
+use Rattle.query_parser.specs.Inside.PredicateSteps.{predicate_at, has_level, inside_of}
+use Rattle.query_parser.specs.Inside.GroupSteps.{sets_at}
 
 -- before a predicate
 pub no_predicate : (limits : Limits) (n : ℕ) (ts : List Token) → n ≡ 0 → Fails faults.OverLimit (predicate_at limits n ts)

@@ -8,12 +8,12 @@ use Rattle.query_lexer.specs.Options.{choose}
 use Rattle.semantics.specs.Syntax.{ExpressionForm, OperandForm, PredicateForm, over_all, over_filtered, truth_test, compare, between, member, null_test, column, not_of}
 use Rattle.semantics.specs.Productions.{conjunction_of, disjunction_of}
 use Rattle.semantics.specs.Leaves.{Limits}
-use Rattle.query_parser.specs.Fronts.{is_word, is_sign, after}
-use Rattle.query_parser.specs.Steps.{◌>>=◌, Reader, over, found_or_unexpected, more, name_at}
-use Rattle.query_parser.specs.LeafSteps.{aggregate_at, arguments_at, literal_at, literals_at, op_at, truth_at, mark_at}
-use Rattle.query_parser.specs.ExpressionSteps.{Inside, filter_at, function_at, expression_at, begins_expression}
-use Rattle.query_parser.specs.AtomSteps.{operand_at, member_after, between_after, negated_after, column_of, atom_after, test_after, is_after, tested_atom_at}
-use Rattle.query_parser.specs.PredicateSteps.{test_at, negation_at, conjunction_at, disjunction_at, predicate_at, any_front, inside_of}
+use Rattle.query_parser.specs.Inside.Fronts.{is_word, is_sign, after}
+use Rattle.query_parser.specs.Inside.Steps.{◌>>=◌, Reader, over, found_or_unexpected, more, name_at}
+use Rattle.query_parser.specs.Inside.LeafSteps.{aggregate_at, arguments_at, literal_at, literals_at, op_at, truth_at, mark_at}
+use Rattle.query_parser.specs.Inside.ExpressionSteps.{Inside, filter_at, function_at, expression_at, begins_expression}
+use Rattle.query_parser.specs.Inside.AtomSteps.{operand_at, member_after, between_after, negated_after, column_of, atom_after, test_after, is_after, tested_atom_at}
+use Rattle.query_parser.specs.Inside.PredicateSteps.{test_at, negation_at, conjunction_at, disjunction_at, predicate_at, any_front, inside_of}
 use Rattle.query_parser.proofs.Local.{Local, local_loose, local_as, local_ok, local_stuck, local_over, local_choose, local_front, local_bind, local_found_or_stuck, local_all}
 use Rattle.query_parser.proofs.LocalLeaves.{TellsByFront, local_closed, name_front, aggregate_l, arguments_l, literal_front, op_front, literals_l, truth_l}
 

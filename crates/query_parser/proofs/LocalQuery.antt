@@ -9,15 +9,15 @@ use Rattle.semantics.specs.declared.token.Word.TheVariants as w
 use Rattle.semantics.specs.declared.token.Sign.TheVariants as s
 use Rattle.query_lexer.specs.Options.{choose}
 use Rattle.semantics.specs.Syntax.{ExpressionForm, PredicateForm, ElementForm, ItemForm, KeyForm, TreeForm, set, rollup, cube, sets, element_forms}
-use Rattle.query_parser.specs.Stops.{Stop}
-use Rattle.query_parser.specs.Stops as halts
-use Rattle.query_parser.specs.Fronts.{is_word, is_sign, after}
-use Rattle.query_parser.specs.Steps.{◌>>=◌, Reader, unexpected_at, found_or_unexpected, with_front, more, name_at, begins_name}
-use Rattle.query_parser.specs.ExpressionSteps.{expression_at, begins_expression}
-use Rattle.query_parser.specs.PredicateSteps.{predicate_at, inside_of, any_front}
-use Rattle.query_parser.specs.GroupSteps.{all_at, enclosed_at, begins_unit, unit_at, units_at, nothing_at, set_at, element_at, sets_at, group_at}
-use Rattle.query_parser.specs.KeySteps.{direction_at, null_ordering_at, key_at, keys_at}
-use Rattle.query_parser.specs.QuerySteps.{alias_at, item_at, items_at, from_at, clause_at, set_quantifier_at, elements_at, groups_at, select_at, records_at, rows_at, query_at, at_end, whole_at}
+use Rattle.query_parser.specs.Inside.Stops.{Stop}
+use Rattle.query_parser.specs.Inside.Stops as halts
+use Rattle.query_parser.specs.Inside.Fronts.{is_word, is_sign, after}
+use Rattle.query_parser.specs.Inside.Steps.{◌>>=◌, Reader, unexpected_at, found_or_unexpected, with_front, more, name_at, begins_name}
+use Rattle.query_parser.specs.Inside.ExpressionSteps.{expression_at, begins_expression}
+use Rattle.query_parser.specs.Inside.PredicateSteps.{predicate_at, inside_of, any_front}
+use Rattle.query_parser.specs.Inside.GroupSteps.{all_at, enclosed_at, begins_unit, unit_at, units_at, nothing_at, set_at, element_at, sets_at, group_at}
+use Rattle.query_parser.specs.Inside.KeySteps.{direction_at, null_ordering_at, key_at, keys_at}
+use Rattle.query_parser.specs.Inside.QuerySteps.{alias_at, item_at, items_at, from_at, clause_at, set_quantifier_at, elements_at, groups_at, select_at, records_at, rows_at, query_at, at_end, whole_at}
 use Rattle.query_parser.proofs.Local.{SameFront, IsFront, Local, Shares, left_of, local_loose, local_as, local_end, local_head, local_ok, local_stuck, local_over, local_choose, local_front, local_bind, local_found_or_stuck, local_found_or_stuck_front, local_all}
 use Rattle.query_parser.proofs.LocalLeaves.{TellsByFront, local_listed, local_closed, name_front, name_told}
 use Rattle.semantics.specs.Leaves.{Limits, standard}

@@ -2,12 +2,12 @@
 use Rattle.std.proofs.Common.{arith, length, ◌<◌, ◌≤◌, ◌≡◌, ℕ, zero, suc, Bool, List, [], ◌∷◌, ◌++◌, Some, None, Result, Ok, Err, refl, sym, ap, subst, ◌∙◌, append_assoc}
 use Rattle.std.proofs.lemmas.List.{append-nil}
 use Rattle.semantics.specs.declared.token.Token.{Token}
-use Rattle.query_parser.specs.Fronts.{after}
-use Rattle.query_parser.specs.Steps.{Fails, Reader, excess, with_front, more}
+use Rattle.query_parser.specs.Inside.Fronts.{after}
+use Rattle.query_parser.specs.Inside.Steps.{Fails, Reader, excess, with_front, more}
 use Rattle.query_parser.specs.declared.fault.GrammarFault.{GrammarFault}
-use Rattle.query_parser.specs.Stops.{Stop, fault_of}
+use Rattle.query_parser.specs.Inside.Stops.{Stop, fault_of}
 use Rattle.query_parser.specs.declared.fault.GrammarFault.TheVariants as faults
-use Rattle.query_parser.specs.Stops as halts
+use Rattle.query_parser.specs.Inside.Stops as halts
 
 -- What a list is read as.
 abbrev Parts : Type 0 → Type 0

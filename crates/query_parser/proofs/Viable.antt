@@ -7,10 +7,10 @@ use Rattle.semantics.specs.declared.token.Token.TheVariants as tokens
 use Rattle.semantics.specs.declared.token.Word.TheVariants as w
 use Rattle.semantics.specs.declared.token.Sign.TheVariants as s
 use Rattle.query_lexer.specs.Options.{choose}
-use Rattle.query_parser.specs.Stops.{Stop}
-use Rattle.query_parser.specs.Stops as halts
-use Rattle.query_parser.specs.Fronts.{is_sign, after}
-use Rattle.query_parser.specs.Steps.{◌>>=◌, Reader, unexpected_at, over, found_or_unexpected, excess, with_front, more}
+use Rattle.query_parser.specs.Inside.Stops.{Stop}
+use Rattle.query_parser.specs.Inside.Stops as halts
+use Rattle.query_parser.specs.Inside.Fronts.{is_sign, after}
+use Rattle.query_parser.specs.Inside.Steps.{◌>>=◌, Reader, unexpected_at, over, found_or_unexpected, excess, with_front, more}
 use Rattle.semantics.specs.Leaves.{Derivation, IsRepeated}
 use Rattle.query_parser.proofs.Inversions.{bind_ok, choose_ok, ok_is}
 use Rattle.query_parser.proofs.Heads.{after_sign_is}

@@ -9,12 +9,12 @@ use Rattle.query_lexer.specs.Options.{choose}
 use Rattle.semantics.specs.declared.aggregate.Aggregate.{Aggregate}
 use Rattle.semantics.specs.declared.aggregate.Aggregate.TheVariants as aggregates
 use Rattle.semantics.specs.Syntax.{ExpressionForm, FunctionForm, PredicateForm, over_all, over_filtered}
-use Rattle.query_parser.specs.Stops.{Stop}
-use Rattle.query_parser.specs.Stops as halts
-use Rattle.query_parser.specs.Fronts.{is_word, is_sign, after}
-use Rattle.query_parser.specs.Steps.{◌>>=◌, Reader, unexpected_at, over, found_or_unexpected, name_at}
-use Rattle.query_parser.specs.LeafSteps.{aggregate_at, arguments_at}
-use Rattle.query_parser.specs.ExpressionSteps.{Inside, filter_at, function_at, expression_at, begins_expression}
+use Rattle.query_parser.specs.Inside.Stops.{Stop}
+use Rattle.query_parser.specs.Inside.Stops as halts
+use Rattle.query_parser.specs.Inside.Fronts.{is_word, is_sign, after}
+use Rattle.query_parser.specs.Inside.Steps.{◌>>=◌, Reader, unexpected_at, over, found_or_unexpected, name_at}
+use Rattle.query_parser.specs.Inside.LeafSteps.{aggregate_at, arguments_at}
+use Rattle.query_parser.specs.Inside.ExpressionSteps.{Inside, filter_at, function_at, expression_at, begins_expression}
 use Rattle.semantics.specs.Leaves.{standard, Derivation, IsRepeated, IsName, IsAggregate}
 use Rattle.semantics.specs.Productions.{IsFunction, IsExpression}
 use Rattle.query_parser.proofs.Heads.{after_word_is, after_sign_is}

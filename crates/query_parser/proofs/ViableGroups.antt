@@ -7,12 +7,12 @@ use Rattle.semantics.specs.declared.token.Word.TheVariants as w
 use Rattle.semantics.specs.declared.token.Sign.TheVariants as s
 use Rattle.query_lexer.specs.Options.{choose}
 use Rattle.semantics.specs.Syntax.{ElementForm, set, rollup, cube, sets, element_forms}
-use Rattle.query_parser.specs.Fronts.{is_word, is_sign, after}
-use Rattle.query_parser.specs.Steps.{◌>>=◌, Reader, found_or_unexpected, more, name_at, begins_name}
+use Rattle.query_parser.specs.Inside.Fronts.{is_word, is_sign, after}
+use Rattle.query_parser.specs.Inside.Steps.{◌>>=◌, Reader, found_or_unexpected, more, name_at, begins_name}
 use Rattle.semantics.specs.Leaves.{Derivation, IsRepeated, IsName}
 use Rattle.semantics.specs.Grammar.{IsUnit, IsSet, IsElement, IsGroup}
-use Rattle.query_parser.specs.PredicateSteps.{any_front}
-use Rattle.query_parser.specs.GroupSteps.{all_at, enclosed_at, begins_unit, unit_at, units_at, nothing_at, set_at, element_at, sets_at, group_at}
+use Rattle.query_parser.specs.Inside.PredicateSteps.{any_front}
+use Rattle.query_parser.specs.Inside.GroupSteps.{all_at, enclosed_at, begins_unit, unit_at, units_at, nothing_at, set_at, element_at, sets_at, group_at}
 use Rattle.query_parser.proofs.Heads.{after_word_is, after_sign_is}
 use Rattle.query_parser.proofs.Viable.{Phrase, Viable, Listed, Closed, Enclosed, Exactly, exactly, phrase_listed, phrase_closed, viable_ok, viable_over, viable_as, viable_same, viable_loose, viable_made, viable_choose, viable_front, viable_all, viable_listed, viable_closed, viable_enclosed}
 use Rattle.query_parser.proofs.ViableLeaves.{viable_word, found_or_stuck_word, name_finds, name_phrase, name_v}

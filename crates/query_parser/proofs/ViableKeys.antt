@@ -9,12 +9,12 @@ use Rattle.semantics.specs.Syntax.{ExpressionForm, KeyForm}
 use Rattle.semantics.specs.Leaves.{Limits, standard, Derivation}
 use Rattle.semantics.specs.Productions.{IsExpression, IsPredicate}
 use Rattle.semantics.specs.Grammar.{IsDirection, IsNullOrdering, IsKey, IsOrderBy}
-use Rattle.query_parser.specs.Fronts.{is_word, after}
-use Rattle.query_parser.specs.Steps.{◌>>=◌, Reader, found_or_unexpected}
-use Rattle.query_parser.specs.ExpressionSteps.{expression_at, begins_expression}
-use Rattle.query_parser.specs.PredicateSteps.{inside_of}
-use Rattle.query_parser.specs.GroupSteps.{all_at}
-use Rattle.query_parser.specs.KeySteps.{direction_at, null_ordering_at, key_at, keys_at}
+use Rattle.query_parser.specs.Inside.Fronts.{is_word, after}
+use Rattle.query_parser.specs.Inside.Steps.{◌>>=◌, Reader, found_or_unexpected}
+use Rattle.query_parser.specs.Inside.ExpressionSteps.{expression_at, begins_expression}
+use Rattle.query_parser.specs.Inside.PredicateSteps.{inside_of}
+use Rattle.query_parser.specs.Inside.GroupSteps.{all_at}
+use Rattle.query_parser.specs.Inside.KeySteps.{direction_at, null_ordering_at, key_at, keys_at}
 use Rattle.query_parser.proofs.Viable.{Phrase, Viable, Listed, viable_ok, viable_as, viable_same, viable_bind, viable_made}
 use Rattle.query_parser.proofs.ViableLeaves.{limits_of, viable_word, found_or_stuck_word}
 use Rattle.query_parser.proofs.ViableExpressions.{expression_v}

@@ -14,14 +14,14 @@ use Rattle.semantics.specs.Syntax.{ExpressionForm, PredicateForm, ElementForm, I
 use Rattle.semantics.specs.Leaves.{Limits, standard, Derivation, IsRepeated, IsName, IsOptional}
 use Rattle.semantics.specs.Productions.{IsExpression, IsPredicate}
 use Rattle.semantics.specs.Grammar.{IsItem, IsGroup, IsGroupBy, IsOrderBy, IsQuery, IsClause}
-use Rattle.query_parser.specs.Stops.{Stop}
-use Rattle.query_parser.specs.Fronts.{is_word, is_sign, after}
-use Rattle.query_parser.specs.Steps.{◌>>=◌, Reader, unexpected_at, found_or_unexpected, more, name_at}
-use Rattle.query_parser.specs.ExpressionSteps.{begins_expression}
-use Rattle.query_parser.specs.PredicateSteps.{predicate_at, any_front}
-use Rattle.query_parser.specs.GroupSteps.{all_at, group_at}
-use Rattle.query_parser.specs.KeySteps.{keys_at}
-use Rattle.query_parser.specs.QuerySteps.{alias_at, item_at, items_at, from_at, clause_at, set_quantifier_at, elements_at, groups_at, select_at, records_at, rows_at, query_at}
+use Rattle.query_parser.specs.Inside.Stops.{Stop}
+use Rattle.query_parser.specs.Inside.Fronts.{is_word, is_sign, after}
+use Rattle.query_parser.specs.Inside.Steps.{◌>>=◌, Reader, unexpected_at, found_or_unexpected, more, name_at}
+use Rattle.query_parser.specs.Inside.ExpressionSteps.{begins_expression}
+use Rattle.query_parser.specs.Inside.PredicateSteps.{predicate_at, any_front}
+use Rattle.query_parser.specs.Inside.GroupSteps.{all_at, group_at}
+use Rattle.query_parser.specs.Inside.KeySteps.{keys_at}
+use Rattle.query_parser.specs.Inside.QuerySteps.{alias_at, item_at, items_at, from_at, clause_at, set_quantifier_at, elements_at, groups_at, select_at, records_at, rows_at, query_at}
 use Rattle.query_parser.proofs.Heads.{after_sign_is}
 use Rattle.query_parser.proofs.Viable.{Phrase, Viable, counted, Finds, BeginsPart, TellsPart, AtMost, Listed, viable_ok, viable_stuck, viable_as, viable_same, viable_bind, viable_made, viable_front, viable_more, viable_listed}
 use Rattle.query_parser.proofs.ViableLeaves.{limits_of, viable_word, found_or_stuck_word, flag_way, name_v}

@@ -1,10 +1,1 @@
-pub mod Fronts
-pub mod Steps
-pub mod LeafSteps
-pub mod ExpressionSteps
-pub mod AtomSteps
-pub mod PredicateSteps
-pub mod GroupSteps
-pub mod KeySteps
-pub mod QuerySteps
-pub mod Stops
+pub mod Inside

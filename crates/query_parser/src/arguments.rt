@@ -1,8 +1,8 @@
 //! Reads names with commas between them, and the bracketed names behind GROUPING.
 
 ghost use Rattle.std.specs.Prelude.{◌<◌, ℕ, length, IfOk};
-ghost use Rattle.query_parser.specs.Steps.{Gives};
-ghost use Rattle.query_parser.specs.LeafSteps.{arguments_at};
+ghost use Rattle.query_parser.specs.Inside.Steps.{Gives};
+ghost use Rattle.query_parser.specs.Inside.LeafSteps.{arguments_at};
 ghost use Rattle.semantics.specs.Leaves.{standard};
 
 use crate::fault::GrammarFault;
@@ -23,7 +23,7 @@ pub(crate) struct Names;
 
 impl Listed for Names {
     ghost use Rattle.std.specs.Prelude.{List, ℕ};
-    ghost use Rattle.query_parser.specs.Steps.{found_or_unexpected, name_at, begins_name};
+    ghost use Rattle.query_parser.specs.Inside.Steps.{found_or_unexpected, name_at, begins_name};
 
     type Part = Text;
 
@@ -54,7 +54,7 @@ impl Listed for Names {
 ///
 /// `OverLimit` for a ninth name; `Unexpected` at the first token that continues no such list; `OutOfMemory` where
 /// there is no memory for the names.
-#[tactic(auto, unfolding(crate::specs::LeafSteps::arguments_at))]
+#[tactic(auto, unfolding(crate::specs::Inside::LeafSteps::arguments_at))]
 pub(crate) fn grouping_names(
     alloc: Global,
     tokens: &[Token],

@@ -2,8 +2,8 @@
 
 ghost use Rattle.std.specs.Prelude.{◌<◌, ◌≤◌, length, IfOk};
 ghost use Rattle.query_ast.specs.Syntax.{operand_form, predicate_form};
-ghost use Rattle.query_parser.specs.Steps.{Gives};
-ghost use Rattle.query_parser.specs.AtomSteps.{member_after, column_of, test_after, is_after};
+ghost use Rattle.query_parser.specs.Inside.Steps.{Gives};
+ghost use Rattle.query_parser.specs.Inside.AtomSteps.{member_after, column_of, test_after, is_after};
 ghost use Rattle.semantics.specs.Leaves.{standard};
 
 use crate::fault::GrammarFault;
@@ -16,7 +16,7 @@ use query_lexer::{Token, Word};
 use std::alloc::Global;
 
 /// The atom of a first operand and the literals behind its IN.
-#[tactic(auto, unfolding(crate::specs::AtomSteps::member_after))]
+#[tactic(auto, unfolding(crate::specs::Inside::AtomSteps::member_after))]
 pub(crate) fn member(
     alloc: Global,
     first: Operand,
@@ -37,7 +37,7 @@ pub(crate) fn member(
 }
 
 /// The atom that an operand alone is: a bare name. Anything else asks for more than these tokens.
-#[tactic(auto, unfolding(crate::specs::AtomSteps::column_of))]
+#[tactic(auto, unfolding(crate::specs::Inside::AtomSteps::column_of))]
 pub(crate) fn column(operand: Operand, tokens: &[Token]) -> Result<Predicate, GrammarFault>
     ensures { Gives predicate_form result (column_of (operand_form operand) tokens.now) }
 {
@@ -50,7 +50,7 @@ pub(crate) fn column(operand: Operand, tokens: &[Token]) -> Result<Predicate, Gr
 }
 
 /// A predicate and the truth test behind it, where there is one.
-#[tactic(auto, unfolding(crate::specs::AtomSteps::test_after))]
+#[tactic(auto, unfolding(crate::specs::Inside::AtomSteps::test_after))]
 pub(crate) fn optional_truth_test(
     alloc: Global,
     predicate: Predicate,
@@ -71,7 +71,7 @@ pub(crate) fn optional_truth_test(
 
 /// A first operand and what stands behind its IS: NULL, and maybe a truth test of that; or the truth
 /// test of a bare name.
-#[tactic(auto, unfolding(crate::specs::AtomSteps::is_after))]
+#[tactic(auto, unfolding(crate::specs::Inside::AtomSteps::is_after))]
 pub(crate) fn null_or_truth_test(
     alloc: Global,
     first: Operand,

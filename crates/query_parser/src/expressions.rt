@@ -1,7 +1,7 @@
 //! Where expressions begin.
 
 ghost use Rattle.std.specs.Prelude.{◌≡◌};
-ghost use Rattle.query_parser.specs.ExpressionSteps.{begins_expression};
+ghost use Rattle.query_parser.specs.Inside.ExpressionSteps.{begins_expression};
 
 use query_lexer::{Token, Word};
 
@@ -9,7 +9,7 @@ use query_lexer::{Token, Word};
 /// function.
 ///
 /// Example: it is true of the tokens of `shop` and of `SUM(cents)`, and false of those of `5`.
-#[tactic(auto, unfolding(crate::specs::ExpressionSteps::begins_expression))]
+#[tactic(auto, unfolding(crate::specs::Inside::ExpressionSteps::begins_expression))]
 pub(crate) fn begins_expression(tokens: &[Token]) -> bool
     ensures { result ≡ begins_expression tokens.now }
 {

@@ -3,8 +3,8 @@
 ghost use Rattle.std.specs.Prelude.{◌≡◌, ◌<◌, length, IfOk, IfSome};
 ghost use Rattle.query_lexer.specs.Options.{Tells};
 ghost use Rattle.query_parser.specs.declared.fault.GrammarFault.TheVariants.{Unexpected};
-ghost use Rattle.query_parser.specs.Fronts.{is_word, is_sign, after};
-ghost use Rattle.query_parser.specs.Steps.{Gives, found_or_unexpected, name_at};
+ghost use Rattle.query_parser.specs.Inside.Fronts.{is_word, is_sign, after};
+ghost use Rattle.query_parser.specs.Inside.Steps.{Gives, found_or_unexpected, name_at};
 
 use crate::fault::GrammarFault;
 use query_ast::Text;
@@ -43,7 +43,7 @@ pub(crate) fn after_sign(tokens: &[Token], sign: Sign) -> Option<&[Token]>
 ///
 /// Example: of the tokens of `shop, cents` it answers `shop` and the tokens of `, cents`; of those of `FROM lines`,
 /// `None`.
-#[tactic(auto, unfolding(crate::specs::Steps::name_at))]
+#[tactic(auto, unfolding(crate::specs::Inside::Steps::name_at))]
 pub(crate) fn name(tokens: &[Token]) -> Option<(&Text, &[Token])>
     ensures exact { Tells (λ x. (x.0.now, x.1.now)) result (name_at tokens.now) }
     ensures shorter { IfSome result (λ x. length x.1.now < length tokens.now) }

@@ -1,8 +1,8 @@
 //! Reads set functions, apart from their FILTER.
 
 ghost use Rattle.std.specs.Prelude.{◌<◌, length, IfOk};
-ghost use Rattle.query_parser.specs.Steps.{Gives};
-ghost use Rattle.query_parser.specs.LeafSteps.{closed_name_at, argument_at, counted_name_at, count_at, aggregate_at};
+ghost use Rattle.query_parser.specs.Inside.Steps.{Gives};
+ghost use Rattle.query_parser.specs.Inside.LeafSteps.{closed_name_at, argument_at, counted_name_at, count_at, aggregate_at};
 
 use crate::fault::GrammarFault;
 use crate::fronts::{after_sign, after_word, expect_name, expect_sign, unexpected_fault};
@@ -10,7 +10,7 @@ use query_ast::{Aggregate, Text};
 use query_lexer::{Sign, Token, Word};
 
 /// A name and its closing bracket.
-#[tactic(auto, unfolding(crate::specs::LeafSteps::closed_name_at))]
+#[tactic(auto, unfolding(crate::specs::Inside::LeafSteps::closed_name_at))]
 fn closed_name(tokens: &[Token]) -> Result<(Text, &[Token]), GrammarFault>
     ensures exact { Gives (λ x. (x.0, x.1.now)) result (closed_name_at tokens.now) }
     ensures shorter { IfOk result (λ x. length x.1.now < length tokens.now) }
@@ -21,7 +21,7 @@ fn closed_name(tokens: &[Token]) -> Result<(Text, &[Token]), GrammarFault>
 }
 
 /// The bracketed name behind a set function.
-#[tactic(auto, unfolding(crate::specs::LeafSteps::argument_at))]
+#[tactic(auto, unfolding(crate::specs::Inside::LeafSteps::argument_at))]
 fn argument(tokens: &[Token]) -> Result<(Text, &[Token]), GrammarFault>
     ensures exact { Gives (λ x. (x.0, x.1.now)) result (argument_at tokens.now) }
     ensures shorter { IfOk result (λ x. length x.1.now < length tokens.now) }
@@ -31,7 +31,7 @@ fn argument(tokens: &[Token]) -> Result<(Text, &[Token]), GrammarFault>
 }
 
 /// The name that a COUNT counts, with DISTINCT or without, and its closing bracket.
-#[tactic(auto, unfolding(crate::specs::LeafSteps::counted_name_at))]
+#[tactic(auto, unfolding(crate::specs::Inside::LeafSteps::counted_name_at))]
 fn counted_name(tokens: &[Token]) -> Result<(Aggregate, &[Token]), GrammarFault>
     ensures exact { Gives (λ x. (x.0, x.1.now)) result (counted_name_at tokens.now) }
     ensures shorter { IfOk result (λ x. length x.1.now < length tokens.now) }
@@ -45,7 +45,7 @@ fn counted_name(tokens: &[Token]) -> Result<(Aggregate, &[Token]), GrammarFault>
 }
 
 /// The star or name in brackets behind COUNT.
-#[tactic(auto, unfolding(crate::specs::LeafSteps::count_at))]
+#[tactic(auto, unfolding(crate::specs::Inside::LeafSteps::count_at))]
 fn count(tokens: &[Token]) -> Result<(Aggregate, &[Token]), GrammarFault>
     ensures exact { Gives (λ x. (x.0, x.1.now)) result (count_at tokens.now) }
     ensures shorter { IfOk result (λ x. length x.1.now < length tokens.now) }
@@ -68,7 +68,7 @@ fn count(tokens: &[Token]) -> Result<(Aggregate, &[Token]), GrammarFault>
 ///
 /// `Unexpected` at the first token that continues no set function; `OutOfMemory` where there is no memory for the
 /// name.
-#[tactic(auto, unfolding(crate::specs::LeafSteps::aggregate_at))]
+#[tactic(auto, unfolding(crate::specs::Inside::LeafSteps::aggregate_at))]
 pub(crate) fn aggregate(tokens: &[Token]) -> Result<(Aggregate, &[Token]), GrammarFault>
     ensures exact { Gives (λ x. (x.0, x.1.now)) result (aggregate_at tokens.now) }
     ensures shorter { IfOk result (λ x. length x.1.now < length tokens.now) }

@@ -3,11 +3,11 @@
 ghost use Rattle.std.specs.Prelude.{◌≡◌, ◌<◌, ◌≤◌, ◌∷◌, [], length, map, IfOk};
 ghost use Rattle.semantics.specs.declared.token.Sign.TheVariants.{Comma};
 ghost use Rattle.query_ast.specs.Syntax.{element_form};
-ghost use Rattle.query_parser.specs.Fronts.{is_sign};
-ghost use Rattle.query_parser.specs.Steps.{Gives, with_front, more};
-ghost use Rattle.query_parser.specs.PredicateSteps.{any_front};
-ghost use Rattle.query_parser.specs.GroupSteps.{sets_at, group_at};
-ghost use Rattle.query_parser.specs.QuerySteps.{elements_at, groups_at, set_quantifier_at};
+ghost use Rattle.query_parser.specs.Inside.Fronts.{is_sign};
+ghost use Rattle.query_parser.specs.Inside.Steps.{Gives, with_front, more};
+ghost use Rattle.query_parser.specs.Inside.PredicateSteps.{any_front};
+ghost use Rattle.query_parser.specs.Inside.GroupSteps.{sets_at, group_at};
+ghost use Rattle.query_parser.specs.Inside.QuerySteps.{elements_at, groups_at, set_quantifier_at};
 ghost use Rattle.semantics.specs.Leaves.{standard};
 
 use crate::fault::GrammarFault;
@@ -23,7 +23,7 @@ const MAX_LEVELS: u32 = 16;
 
 /// An element of GROUP BY, with at most so many levels of GROUPING SETS in one another.
 #[cycle(group)]
-#[tactic(auto, unfolding(crate::specs::GroupSteps::element_at))]
+#[tactic(auto, unfolding(crate::specs::Inside::GroupSteps::element_at))]
 fn group(
     alloc: Global,
     tokens: &[Token],
@@ -50,7 +50,7 @@ fn group(
 /// What stands behind GROUPING: SETS and its bracketed elements, with at most so many levels of
 /// GROUPING SETS in all.
 #[cycle(group)]
-#[tactic(auto, unfolding(crate::specs::GroupSteps::sets_at))]
+#[tactic(auto, unfolding(crate::specs::Inside::GroupSteps::sets_at))]
 fn grouping_sets(
     alloc: Global,
     tokens: &[Token],
@@ -95,7 +95,7 @@ fn more_groups(
 }
 
 /// Whether DISTINCT is written, and what stands behind it.
-#[tactic(auto, unfolding(crate::specs::QuerySteps::set_quantifier_at))]
+#[tactic(auto, unfolding(crate::specs::Inside::QuerySteps::set_quantifier_at))]
 fn set_quantifier(tokens: &[Token]) -> (bool, &[Token])
     ensures exact { set_quantifier_at tokens.now ≡ (result.0, result.1.now) }
     ensures shorter { length result.1.now ≤ length tokens.now }
@@ -107,7 +107,7 @@ fn set_quantifier(tokens: &[Token]) -> (bool, &[Token])
 }
 
 /// What stands behind GROUP BY: whether DISTINCT is written, and the elements.
-#[tactic(auto, unfolding(crate::specs::QuerySteps::elements_at))]
+#[tactic(auto, unfolding(crate::specs::Inside::QuerySteps::elements_at))]
 fn elements(
     alloc: Global,
     tokens: &[Token],
@@ -124,7 +124,7 @@ fn elements(
 
 /// Whether GROUP BY DISTINCT is written, and the elements of GROUP BY, none where it is not
 /// written.
-#[tactic(auto, unfolding(crate::specs::QuerySteps::groups_at))]
+#[tactic(auto, unfolding(crate::specs::Inside::QuerySteps::groups_at))]
 pub(crate) fn groups(
     alloc: Global,
     tokens: &[Token],

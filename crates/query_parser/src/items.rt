@@ -2,8 +2,8 @@
 
 ghost use Rattle.std.specs.Prelude.{◌<◌, ◌≤◌, length, map, IfOk};
 ghost use Rattle.query_ast.specs.Syntax.{item_form};
-ghost use Rattle.query_parser.specs.Steps.{Gives};
-ghost use Rattle.query_parser.specs.QuerySteps.{alias_at, item_at, items_at};
+ghost use Rattle.query_parser.specs.Inside.Steps.{Gives};
+ghost use Rattle.query_parser.specs.Inside.QuerySteps.{alias_at, item_at, items_at};
 ghost use Rattle.semantics.specs.Leaves.{standard};
 
 use crate::expressions::begins_expression;
@@ -20,7 +20,7 @@ use std::alloc::Global;
 const MAX_ITEMS: usize = 64;
 
 /// An alias, or none.
-#[tactic(auto, unfolding(crate::specs::QuerySteps::alias_at))]
+#[tactic(auto, unfolding(crate::specs::Inside::QuerySteps::alias_at))]
 fn alias(tokens: &[Token]) -> Result<(Option<Text>, &[Token]), GrammarFault>
     ensures exact { Gives (λ x. (x.0, x.1.now)) result (alias_at tokens.now) }
     ensures shorter { IfOk result (λ x. length x.1.now ≤ length tokens.now) }
@@ -33,7 +33,7 @@ fn alias(tokens: &[Token]) -> Result<(Option<Text>, &[Token]), GrammarFault>
 }
 
 /// An item.
-#[tactic(auto, unfolding(crate::specs::QuerySteps::item_at))]
+#[tactic(auto, unfolding(crate::specs::Inside::QuerySteps::item_at))]
 fn item(alloc: Global, tokens: &[Token]) -> Result<(Item, &[Token]), GrammarFault>
     ensures exact { Gives (λ x. (item_form x.0, x.1.now)) result (item_at standard tokens.now) }
     ensures shorter { IfOk result (λ x. length x.1.now < length tokens.now) }
@@ -49,9 +49,9 @@ struct SelectItems;
 impl Listed for SelectItems {
     ghost use Rattle.semantics.specs.Syntax.{ItemForm};
     ghost use Rattle.query_ast.specs.Syntax.{item_form};
-    ghost use Rattle.query_parser.specs.ExpressionSteps.{begins_expression};
+    ghost use Rattle.query_parser.specs.Inside.ExpressionSteps.{begins_expression};
     ghost use Rattle.semantics.specs.Leaves.{standard};
-    ghost use Rattle.query_parser.specs.QuerySteps.{item_at};
+    ghost use Rattle.query_parser.specs.Inside.QuerySteps.{item_at};
 
     type Part = Item;
 
@@ -73,7 +73,7 @@ impl Listed for SelectItems {
 }
 
 /// The items of SELECT.
-#[tactic(auto, unfolding(crate::specs::QuerySteps::items_at))]
+#[tactic(auto, unfolding(crate::specs::Inside::QuerySteps::items_at))]
 pub(crate) fn items(alloc: Global, tokens: &[Token]) -> Result<(Vec<Item>, &[Token]), GrammarFault>
     ensures exact { Gives (λ x. (map item_form x.0.items, x.1.now)) result
         (items_at standard tokens.now) }

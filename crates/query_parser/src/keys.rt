@@ -2,8 +2,8 @@
 
 ghost use Rattle.std.specs.Prelude.{◌≡◌, ◌<◌, ◌≤◌, length, map, IfOk};
 ghost use Rattle.query_ast.specs.Syntax.{key_form};
-ghost use Rattle.query_parser.specs.Steps.{Gives};
-ghost use Rattle.query_parser.specs.KeySteps.{direction_at, null_ordering_at, key_at, keys_at};
+ghost use Rattle.query_parser.specs.Inside.Steps.{Gives};
+ghost use Rattle.query_parser.specs.Inside.KeySteps.{direction_at, null_ordering_at, key_at, keys_at};
 ghost use Rattle.semantics.specs.Leaves.{standard};
 
 use crate::expressions::begins_expression;
@@ -17,7 +17,7 @@ use query_lexer::{Token, Word};
 use std::alloc::Global;
 
 /// Whether DESC is written, and what stands behind it or behind ASC.
-#[tactic(auto, unfolding(crate::specs::KeySteps::direction_at))]
+#[tactic(auto, unfolding(crate::specs::Inside::KeySteps::direction_at))]
 fn direction(tokens: &[Token]) -> (bool, &[Token])
     ensures exact { direction_at tokens.now ≡ (result.0, result.1.now) }
     ensures shorter { length result.1.now ≤ length tokens.now }
@@ -32,7 +32,7 @@ fn direction(tokens: &[Token]) -> (bool, &[Token])
 }
 
 /// Whether NULL is first: as it is written, else exactly under DESC.
-#[tactic(auto, unfolding(crate::specs::KeySteps::null_ordering_at))]
+#[tactic(auto, unfolding(crate::specs::Inside::KeySteps::null_ordering_at))]
 fn null_ordering(tokens: &[Token], descending: bool) -> Result<(bool, &[Token]), GrammarFault>
     ensures exact { Gives (λ x. (x.0, x.1.now)) result (null_ordering_at descending tokens.now) }
     ensures shorter { IfOk result (λ x. length x.1.now ≤ length tokens.now) }
@@ -48,7 +48,7 @@ fn null_ordering(tokens: &[Token], descending: bool) -> Result<(bool, &[Token]),
 }
 
 /// A key, with its defaults resolved.
-#[tactic(auto, unfolding(crate::specs::KeySteps::key_at))]
+#[tactic(auto, unfolding(crate::specs::Inside::KeySteps::key_at))]
 fn key(alloc: Global, tokens: &[Token]) -> Result<(Key, &[Token]), GrammarFault>
     ensures exact { Gives (λ x. (key_form x.0, x.1.now)) result (key_at standard tokens.now) }
     ensures shorter { IfOk result (λ x. length x.1.now < length tokens.now) }
@@ -70,9 +70,9 @@ struct SortKeys;
 impl Listed for SortKeys {
     ghost use Rattle.semantics.specs.Syntax.{KeyForm};
     ghost use Rattle.query_ast.specs.Syntax.{key_form};
-    ghost use Rattle.query_parser.specs.ExpressionSteps.{begins_expression};
+    ghost use Rattle.query_parser.specs.Inside.ExpressionSteps.{begins_expression};
     ghost use Rattle.semantics.specs.Leaves.{standard};
-    ghost use Rattle.query_parser.specs.KeySteps.{key_at};
+    ghost use Rattle.query_parser.specs.Inside.KeySteps.{key_at};
 
     type Part = Key;
 
@@ -94,7 +94,7 @@ impl Listed for SortKeys {
 }
 
 /// The keys of ORDER BY, none where it is not written.
-#[tactic(auto, unfolding(crate::specs::KeySteps::keys_at))]
+#[tactic(auto, unfolding(crate::specs::Inside::KeySteps::keys_at))]
 pub(crate) fn keys(alloc: Global, tokens: &[Token]) -> Result<(Vec<Key>, &[Token]), GrammarFault>
     ensures exact { Gives (λ x. (map key_form x.0.items, x.1.now)) result
         (keys_at standard tokens.now) }

@@ -3,9 +3,9 @@
 ghost use Rattle.std.specs.Prelude.{◌≡◌, ◌<◌, ◌≤◌, ◌∷◌, [], Bool, List, length, map, IfOk};
 ghost use Rattle.semantics.specs.declared.token.Token.{Token};
 ghost use Rattle.semantics.specs.declared.token.Sign.TheVariants.{Comma};
-ghost use Rattle.query_parser.specs.Fronts.{is_sign};
-ghost use Rattle.query_parser.specs.Steps.{Gives, Reader, excess, with_front, more};
-ghost use Rattle.query_parser.specs.Stops.{fault_of};
+ghost use Rattle.query_parser.specs.Inside.Fronts.{is_sign};
+ghost use Rattle.query_parser.specs.Inside.Steps.{Gives, Reader, excess, with_front, more};
+ghost use Rattle.query_parser.specs.Inside.Stops.{fault_of};
 
 use crate::fault::GrammarFault;
 use crate::fronts::{after_sign, unexpected_fault};

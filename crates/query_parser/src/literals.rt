@@ -2,8 +2,8 @@
 
 ghost use Rattle.std.specs.Prelude.{◌<◌, length, IfOk, IfSome};
 ghost use Rattle.query_lexer.specs.Options.{Tells};
-ghost use Rattle.query_parser.specs.Steps.{Gives};
-ghost use Rattle.query_parser.specs.LeafSteps.{literal_at, literals_at};
+ghost use Rattle.query_parser.specs.Inside.Steps.{Gives};
+ghost use Rattle.query_parser.specs.Inside.LeafSteps.{literal_at, literals_at};
 ghost use Rattle.semantics.specs.Leaves.{standard};
 
 use crate::fault::GrammarFault;
@@ -24,7 +24,7 @@ const MAX_LITERALS: usize = 64;
 /// # Errors
 ///
 /// `AllocError` where there is no memory for a text; other literals take none.
-#[tactic(auto, unfolding(crate::specs::LeafSteps::literal_at))]
+#[tactic(auto, unfolding(crate::specs::Inside::LeafSteps::literal_at))]
 pub(crate) fn literal(tokens: &[Token]) -> Result<Option<(Literal, &[Token])>, AllocError>
     ensures exact { IfOk result (λ found.
         Tells (λ x. (x.0, x.1.now)) found (literal_at tokens.now)) }
@@ -48,8 +48,8 @@ pub(crate) struct Literals;
 
 impl Listed for Literals {
     ghost use Rattle.semantics.specs.declared.literal.Literal.{Literal};
-    ghost use Rattle.query_parser.specs.Steps.{found_or_unexpected};
-    ghost use Rattle.query_parser.specs.LeafSteps.{literal_at, begins_literal};
+    ghost use Rattle.query_parser.specs.Inside.Steps.{found_or_unexpected};
+    ghost use Rattle.query_parser.specs.Inside.LeafSteps.{literal_at, begins_literal};
 
     type Part = Literal;
 
@@ -61,7 +61,7 @@ impl Listed for Literals {
 
     ghost front = { begins_literal };
 
-    #[tactic(auto, unfolding(crate::specs::LeafSteps::literal_at))]
+    #[tactic(auto, unfolding(crate::specs::Inside::LeafSteps::literal_at))]
     fn begins(tokens: &[Token]) -> bool {
         matches!(
             tokens,
@@ -90,7 +90,7 @@ impl Listed for Literals {
 ///
 /// `OverLimit` for a 65th literal; `Unexpected` at the first token that continues no such list; `OutOfMemory` where
 /// there is no memory for the literals.
-#[tactic(auto, unfolding(crate::specs::LeafSteps::literals_at))]
+#[tactic(auto, unfolding(crate::specs::Inside::LeafSteps::literals_at))]
 pub(crate) fn in_list(
     alloc: Global,
     tokens: &[Token],

@@ -2,8 +2,8 @@
 
 ghost use Rattle.std.specs.Prelude.{◌≡◌, ◌<◌, ◌≤◌, length, IfOk, IfSome};
 ghost use Rattle.query_lexer.specs.Options.{Tells};
-ghost use Rattle.query_parser.specs.Steps.{Gives};
-ghost use Rattle.query_parser.specs.LeafSteps.{op_at, truth_at, mark_at};
+ghost use Rattle.query_parser.specs.Inside.Steps.{Gives};
+ghost use Rattle.query_parser.specs.Inside.LeafSteps.{op_at, truth_at, mark_at};
 
 use crate::fault::GrammarFault;
 use crate::fronts::{after_word, unexpected_fault};
@@ -14,7 +14,7 @@ use values::{Op, Truth};
 /// token or none stands there.
 ///
 /// Example: of the tokens of `<= 5` it answers `Op::Le` and the tokens of `5`; of those of `IN (5)`, `None`.
-#[tactic(auto, unfolding(crate::specs::LeafSteps::op_at))]
+#[tactic(auto, unfolding(crate::specs::Inside::LeafSteps::op_at))]
 pub(crate) fn operator(tokens: &[Token]) -> Option<(Op, &[Token])>
     ensures exact { Tells (λ x. (x.0, x.1.now)) result (op_at tokens.now) }
     ensures shorter { IfSome result (λ x. length x.1.now < length tokens.now) }
@@ -38,7 +38,7 @@ pub(crate) fn operator(tokens: &[Token]) -> Option<(Op, &[Token])>
 /// # Errors
 ///
 /// `Unexpected` with the number of the tokens, where another token or none stands in front.
-#[tactic(auto, unfolding(crate::specs::LeafSteps::truth_at))]
+#[tactic(auto, unfolding(crate::specs::Inside::LeafSteps::truth_at))]
 pub(crate) fn truth_value(tokens: &[Token]) -> Result<(Truth, &[Token]), GrammarFault>
     ensures exact { Gives (λ x. (x.0, x.1.now)) result (truth_at tokens.now) }
     ensures shorter { IfOk result (λ x. length x.1.now < length tokens.now) }
@@ -55,7 +55,7 @@ pub(crate) fn truth_value(tokens: &[Token]) -> Result<(Truth, &[Token]), Grammar
 ///
 /// Example: of the tokens of `NOT NULL` it answers `true` and the tokens of `NULL`; of those of `NULL`, `false` and
 /// these.
-#[tactic(auto, unfolding(crate::specs::LeafSteps::mark_at))]
+#[tactic(auto, unfolding(crate::specs::Inside::LeafSteps::mark_at))]
 pub(crate) fn mark(tokens: &[Token]) -> (bool, &[Token])
     ensures exact { mark_at tokens.now ≡ (result.0, result.1.now) }
     ensures shorter { length result.1.now ≤ length tokens.now }

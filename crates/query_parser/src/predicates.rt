@@ -4,12 +4,12 @@ ghost use Rattle.std.specs.Prelude.{◌≡◌, ◌<◌, ◌≤◌, length, map, 
 ghost use Rattle.semantics.specs.declared.token.Word.TheVariants.{And, Or};
 ghost use Rattle.query_ast.specs.Syntax.{expression_form, function_form, operand_form, predicate_form};
 ghost use Rattle.query_parser.specs.declared.fault.GrammarFault.TheVariants.{OutOfMemory};
-ghost use Rattle.query_parser.specs.Fronts.{is_word};
+ghost use Rattle.query_parser.specs.Inside.Fronts.{is_word};
 ghost use Rattle.semantics.specs.Productions.{conjunction_of, disjunction_of};
-ghost use Rattle.query_parser.specs.Steps.{Gives, more};
-ghost use Rattle.query_parser.specs.ExpressionSteps.{filter_at, function_at, expression_at};
-ghost use Rattle.query_parser.specs.AtomSteps.{operand_at, between_after, negated_after, atom_after, tested_atom_at};
-ghost use Rattle.query_parser.specs.PredicateSteps.{test_at, negation_at, conjunction_at, predicate_at, any_front, inside_of};
+ghost use Rattle.query_parser.specs.Inside.Steps.{Gives, more};
+ghost use Rattle.query_parser.specs.Inside.ExpressionSteps.{filter_at, function_at, expression_at};
+ghost use Rattle.query_parser.specs.Inside.AtomSteps.{operand_at, between_after, negated_after, atom_after, tested_atom_at};
+ghost use Rattle.query_parser.specs.Inside.PredicateSteps.{test_at, negation_at, conjunction_at, predicate_at, any_front, inside_of};
 ghost use Rattle.semantics.specs.Leaves.{standard};
 
 use crate::arguments::grouping_names;
@@ -58,7 +58,7 @@ fn or_of(first: Predicate, mut others: Vec<Predicate>) -> Result<Predicate, Gram
 
 /// The bracketed predicate behind FILTER.
 #[cycle(predicate)]
-#[tactic(auto, unfolding(crate::specs::ExpressionSteps::filter_at, crate::specs::PredicateSteps::has_level))]
+#[tactic(auto, unfolding(crate::specs::Inside::ExpressionSteps::filter_at, crate::specs::Inside::PredicateSteps::has_level))]
 fn filter(
     alloc: Global,
     tokens: &[Token],
@@ -79,7 +79,7 @@ fn filter(
 
 /// A set function, and the FILTER behind it, where there is one.
 #[cycle(predicate)]
-#[tactic(auto, unfolding(crate::specs::ExpressionSteps::function_at))]
+#[tactic(auto, unfolding(crate::specs::Inside::ExpressionSteps::function_at))]
 fn set_function(
     alloc: Global,
     tokens: &[Token],
@@ -114,7 +114,7 @@ fn set_function(
 /// `Unexpected` at the first token that continues no expression; `OverLimit` for a level too many, a
 /// ninth name of GROUPING or a 65th literal behind IN; `OutOfMemory` where there is no memory for it.
 #[cycle(predicate)]
-#[tactic(auto, unfolding(crate::specs::ExpressionSteps::expression_at))]
+#[tactic(auto, unfolding(crate::specs::Inside::ExpressionSteps::expression_at))]
 pub(crate) fn expression(
     alloc: Global,
     tokens: &[Token],
@@ -138,7 +138,7 @@ pub(crate) fn expression(
 
 /// An operand.
 #[cycle(predicate)]
-#[tactic(auto, unfolding(crate::specs::AtomSteps::operand_at))]
+#[tactic(auto, unfolding(crate::specs::Inside::AtomSteps::operand_at))]
 fn operand(
     alloc: Global,
     tokens: &[Token],
@@ -157,7 +157,7 @@ fn operand(
 
 /// The atom of a first operand and the two ends behind its BETWEEN.
 #[cycle(predicate)]
-#[tactic(auto, unfolding(crate::specs::AtomSteps::between_after))]
+#[tactic(auto, unfolding(crate::specs::Inside::AtomSteps::between_after))]
 fn between_atom(
     alloc: Global,
     first: Operand,
@@ -183,7 +183,7 @@ fn between_atom(
 
 /// The atom of a first operand and what stands behind its NOT.
 #[cycle(predicate)]
-#[tactic(auto, unfolding(crate::specs::AtomSteps::negated_after))]
+#[tactic(auto, unfolding(crate::specs::Inside::AtomSteps::negated_after))]
 fn negated_atom(
     alloc: Global,
     first: Operand,
@@ -203,7 +203,7 @@ fn negated_atom(
 
 /// The atom of a first operand and what stands behind it, unless that is IS.
 #[cycle(predicate)]
-#[tactic(auto, unfolding(crate::specs::AtomSteps::atom_after))]
+#[tactic(auto, unfolding(crate::specs::Inside::AtomSteps::atom_after))]
 fn atom(
     alloc: Global,
     first: Operand,
@@ -232,7 +232,7 @@ fn atom(
 
 /// An atom and the truth test behind it, where there is one.
 #[cycle(predicate)]
-#[tactic(auto, unfolding(crate::specs::AtomSteps::tested_atom_at))]
+#[tactic(auto, unfolding(crate::specs::Inside::AtomSteps::tested_atom_at))]
 fn tested_atom(
     alloc: Global,
     tokens: &[Token],
@@ -254,7 +254,7 @@ fn tested_atom(
 
 /// A predicate in brackets or an atom, and the truth test behind it, where there is one.
 #[cycle(predicate)]
-#[tactic(auto, unfolding(crate::specs::PredicateSteps::test_at))]
+#[tactic(auto, unfolding(crate::specs::Inside::PredicateSteps::test_at))]
 fn test(alloc: Global, tokens: &[Token], levels: u32) -> Result<(Predicate, &[Token]), GrammarFault>
     ensures exact { Gives (λ x. (predicate_form x.0, x.1.now)) result
         (test_at (inside_of standard levels) tokens.now) }
@@ -270,7 +270,7 @@ fn test(alloc: Global, tokens: &[Token], levels: u32) -> Result<(Predicate, &[To
 
 /// A test with NOT or without.
 #[cycle(predicate)]
-#[tactic(auto, unfolding(crate::specs::PredicateSteps::negation_at))]
+#[tactic(auto, unfolding(crate::specs::Inside::PredicateSteps::negation_at))]
 fn negation(
     alloc: Global,
     tokens: &[Token],
@@ -310,7 +310,7 @@ fn more_negations(
 
 /// Parts joined by AND.
 #[cycle(predicate)]
-#[tactic(auto, unfolding(crate::specs::PredicateSteps::conjunction_at))]
+#[tactic(auto, unfolding(crate::specs::Inside::PredicateSteps::conjunction_at))]
 fn conjunction(
     alloc: Global,
     tokens: &[Token],
@@ -358,7 +358,7 @@ fn more_conjunctions(
 /// `Unexpected` at the first token that continues no predicate; `OverLimit` for a level too many, a
 /// ninth name of GROUPING or a 65th literal behind IN; `OutOfMemory` where there is no memory for it.
 #[cycle(predicate)]
-#[tactic(auto, unfolding(crate::specs::PredicateSteps::predicate_at, crate::specs::PredicateSteps::disjunction_at))]
+#[tactic(auto, unfolding(crate::specs::Inside::PredicateSteps::predicate_at, crate::specs::Inside::PredicateSteps::disjunction_at))]
 pub(crate) fn predicate(
     alloc: Global,
     tokens: &[Token],

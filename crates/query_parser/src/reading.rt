@@ -7,8 +7,8 @@ ghost use Rattle.query_ast.specs.Syntax.{tree_form, element_form, item_form, key
 ghost use Rattle.query_parser.specs.declared.fault.GrammarFault.TheVariants.{OutOfMemory, OverLimit, Unexpected};
 ghost use Rattle.semantics.specs.Grammar.{DerivesWithin};
 ghost use Rattle.semantics.specs.Prefixes.{IsUnexpected, IsOverLimit};
-ghost use Rattle.query_parser.specs.Steps.{Gives};
-ghost use Rattle.query_parser.specs.QuerySteps.{from_at, clause_at, select_at, records_at, rows_at, query_at, whole_at};
+ghost use Rattle.query_parser.specs.Inside.Steps.{Gives};
+ghost use Rattle.query_parser.specs.Inside.QuerySteps.{from_at, clause_at, select_at, records_at, rows_at, query_at, whole_at};
 ghost use Rattle.semantics.specs.Leaves.{standard};
 
 use crate::fault::GrammarFault;
@@ -23,7 +23,7 @@ use query_lexer::{Token, Word};
 use std::alloc::Global;
 
 /// What stands behind FROM and the name `lines`.
-#[tactic(auto, unfolding(crate::specs::QuerySteps::from_at))]
+#[tactic(auto, unfolding(crate::specs::Inside::QuerySteps::from_at))]
 fn from_lines(tokens: &[Token]) -> Result<&[Token], GrammarFault>
     ensures exact { Gives (λ x. x.now) result (from_at tokens.now) }
     ensures shorter { IfOk result (λ x. length x.now < length tokens.now) }
@@ -37,7 +37,7 @@ fn from_lines(tokens: &[Token]) -> Result<&[Token], GrammarFault>
 }
 
 /// The predicate of WHERE or HAVING behind its word, none where it is not written.
-#[tactic(auto, unfolding(crate::specs::QuerySteps::clause_at))]
+#[tactic(auto, unfolding(crate::specs::Inside::QuerySteps::clause_at))]
 fn clause(
     alloc: Global,
     tokens: &[Token],
@@ -55,7 +55,7 @@ fn clause(
 }
 
 /// The items of SELECT, and what stands behind FROM.
-#[tactic(auto, unfolding(crate::specs::QuerySteps::select_at))]
+#[tactic(auto, unfolding(crate::specs::Inside::QuerySteps::select_at))]
 fn select(alloc: Global, tokens: &[Token]) -> Result<(Vec<Item>, &[Token]), GrammarFault>
     ensures exact { Gives (λ x. (map item_form x.0.items, x.1.now)) result
         (select_at standard tokens.now) }
@@ -66,7 +66,7 @@ fn select(alloc: Global, tokens: &[Token]) -> Result<(Vec<Item>, &[Token]), Gram
 }
 
 /// WHERE and GROUP BY, which say of the records.
-#[tactic(auto, unfolding(crate::specs::QuerySteps::records_at))]
+#[tactic(auto, unfolding(crate::specs::Inside::QuerySteps::records_at))]
 fn records(
     alloc: Global,
     tokens: &[Token],
@@ -82,7 +82,7 @@ fn records(
 }
 
 /// HAVING and ORDER BY, which say of the rows.
-#[tactic(auto, unfolding(crate::specs::QuerySteps::rows_at))]
+#[tactic(auto, unfolding(crate::specs::Inside::QuerySteps::rows_at))]
 fn rows(
     alloc: Global,
     tokens: &[Token],
@@ -97,7 +97,7 @@ fn rows(
 }
 
 /// A query in front, and what stands behind it.
-#[tactic(auto, unfolding(crate::specs::QuerySteps::query_at))]
+#[tactic(auto, unfolding(crate::specs::Inside::QuerySteps::query_at))]
 fn query(alloc: Global, tokens: &[Token]) -> Result<(Box<Tree>, &[Token]), GrammarFault>
     ensures exact { Gives (λ x. (tree_form x.0.value, x.1.now)) result
         (query_at standard tokens.now) }
@@ -119,7 +119,7 @@ fn query(alloc: Global, tokens: &[Token]) -> Result<(Box<Tree>, &[Token]), Gramm
 }
 
 /// The query that all of the tokens are.
-#[tactic(auto, unfolding(crate::specs::QuerySteps::whole_at))]
+#[tactic(auto, unfolding(crate::specs::Inside::QuerySteps::whole_at))]
 fn whole(alloc: Global, tokens: &[Token]) -> Result<Box<Tree>, GrammarFault>
     ensures { Gives (λ tree. tree_form tree.value) result (whole_at standard tokens.now) }
 {

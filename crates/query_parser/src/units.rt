@@ -3,8 +3,8 @@
 ghost use Rattle.std.specs.Prelude.{◌<◌, length, IfOk, IfSome};
 ghost use Rattle.query_lexer.specs.Options.{Tells};
 ghost use Rattle.query_ast.specs.Syntax.{units_form};
-ghost use Rattle.query_parser.specs.Steps.{Gives};
-ghost use Rattle.query_parser.specs.GroupSteps.{unit_at, units_at, nothing_at, set_at};
+ghost use Rattle.query_parser.specs.Inside.Steps.{Gives};
+ghost use Rattle.query_parser.specs.Inside.GroupSteps.{unit_at, units_at, nothing_at, set_at};
 
 use crate::arguments::Names;
 use crate::fault::GrammarFault;
@@ -16,7 +16,7 @@ use query_lexer::{Sign, Token};
 use std::alloc::Global;
 
 /// A name, or names in brackets.
-#[tactic(auto, unfolding(crate::specs::GroupSteps::unit_at))]
+#[tactic(auto, unfolding(crate::specs::Inside::GroupSteps::unit_at))]
 fn unit(alloc: Global, tokens: &[Token]) -> Result<(Vec<Text>, &[Token]), GrammarFault>
     ensures exact { Gives (λ x. (x.0.items, x.1.now)) result (unit_at tokens.now) }
     ensures shorter { IfOk result (λ x. length x.1.now < length tokens.now) }
@@ -38,7 +38,7 @@ struct GroupingUnits;
 
 impl Listed for GroupingUnits {
     ghost use Rattle.std.specs.Prelude.{List, ℕ};
-    ghost use Rattle.query_parser.specs.GroupSteps.{unit_at, begins_unit};
+    ghost use Rattle.query_parser.specs.Inside.GroupSteps.{unit_at, begins_unit};
 
     type Part = Vec<Text>;
 
@@ -50,7 +50,7 @@ impl Listed for GroupingUnits {
 
     ghost front = { begins_unit };
 
-    #[tactic(auto, unfolding(crate::specs::GroupSteps::begins_unit))]
+    #[tactic(auto, unfolding(crate::specs::Inside::GroupSteps::begins_unit))]
     fn begins(tokens: &[Token]) -> bool {
         matches!(tokens, [Token::Name(_), ..] | [Token::Sign(Sign::Open), ..])
     }
@@ -61,7 +61,7 @@ impl Listed for GroupingUnits {
 }
 
 /// The bracketed units behind ROLLUP or CUBE.
-#[tactic(auto, unfolding(crate::specs::GroupSteps::units_at))]
+#[tactic(auto, unfolding(crate::specs::Inside::GroupSteps::units_at))]
 pub(crate) fn units(
     alloc: Global,
     tokens: &[Token],
@@ -77,7 +77,7 @@ pub(crate) fn units(
 }
 
 /// What stands behind brackets round nothing.
-#[tactic(auto, unfolding(crate::specs::GroupSteps::nothing_at))]
+#[tactic(auto, unfolding(crate::specs::Inside::GroupSteps::nothing_at))]
 fn after_nothing(tokens: &[Token]) -> Option<&[Token]>
     ensures exact { Tells (λ x. x.now) result (nothing_at tokens.now) }
     ensures shorter { IfSome result (λ x. length x.now < length tokens.now) }
@@ -87,7 +87,7 @@ fn after_nothing(tokens: &[Token]) -> Option<&[Token]>
 }
 
 /// A unit, or the set of no columns.
-#[tactic(auto, unfolding(crate::specs::GroupSteps::set_at))]
+#[tactic(auto, unfolding(crate::specs::Inside::GroupSteps::set_at))]
 pub(crate) fn set(alloc: Global, tokens: &[Token]) -> Result<(Vec<Text>, &[Token]), GrammarFault>
     ensures exact { Gives (λ x. (x.0.items, x.1.now)) result (set_at tokens.now) }
     ensures shorter { IfOk result (λ x. length x.1.now < length tokens.now) }

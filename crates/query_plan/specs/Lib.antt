@@ -1,2 +1,2 @@
 pub mod Planned
-pub mod Inside
+pub mod Coding

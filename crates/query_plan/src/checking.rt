@@ -2,7 +2,7 @@
 
 ghost use Rattle.std.specs.Prelude.{◌≡◌, ◌≢◌, [], IfErr, IfOk, OnOk, Some, slice_get};
 ghost use Rattle.semantics.specs.Faults.{query_faults};
-ghost use Rattle.query_typecheck.specs.Inside.FirstFaults.{query_fault};
+ghost use Rattle.query_typecheck.specs.FirstFaults.{query_fault};
 ghost use Rattle.query_resolve.specs.Resolution.{resolution_of};
 ghost use Rattle.query_typecheck.specs.Typing.{IsTyped};
 ghost use Rattle.semantics.specs.declared.query_fault.QueryFault.TheVariants.{OutOfMemory};

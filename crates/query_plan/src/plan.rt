@@ -33,7 +33,7 @@ pub struct Plan {
 
 impl Model for Plan {
     ghost use Rattle.query_plan.specs.Planned.{PlannedQuery, plan_of};
-    ghost use Rattle.query_plan.specs.Inside.Coding.{coded_planned};
+    ghost use Rattle.query_plan.specs.Coding.{coded_planned};
 
     ghost Value = { PlannedQuery };
 

@@ -21,7 +21,7 @@ pub struct Query {
 impl Model for Query {
     ghost use Rattle.semantics.specs.Syntax.{TreeForm};
     ghost use Rattle.query_ast.specs.Syntax.{tree_form};
-    ghost use Rattle.query_plan.specs.Inside.Coding.{coded_tree};
+    ghost use Rattle.query_plan.specs.Coding.{coded_tree};
 
     ghost Value = { TreeForm };
 

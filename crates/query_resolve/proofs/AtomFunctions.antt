@@ -7,7 +7,7 @@ use Rattle.std.proofs.lemmas.List.Concat.{flat_map-append}
 use Rattle.semantics.specs.declared.literal.Literal.{Literal}
 use Rattle.semantics.specs.Syntax.{FunctionForm, ItemForm, KeyForm, OperandForm, PredicateForm, PredicateForms, TreeForm, literal, or_of, and_of, not_of, truth_test, compare, between, member, null_test, column, no_parts, part, operands_of_atoms, operands_of_parts}
 use Rattle.semantics.specs.SetFunctions.{expression_functions, operand_functions, set_functions}
-use Rattle.query_resolve.specs.Inside.Collecting.{clause_functions, parts_functions, predicate_functions}
+use Rattle.query_resolve.specs.Collecting.{clause_functions, parts_functions, predicate_functions}
 
 -- The set functions of the operands of some atoms.
 abbrev atom_functions : List (List OperandForm) → List FunctionForm

@@ -1,2 +1,2 @@
--- What private calls compute.
-pub mod Collecting
+-- What contracts of private calls alone say: no contract of a public call rests on it.
+pub mod Planning

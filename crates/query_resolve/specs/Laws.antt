@@ -1,5 +1,5 @@
 -- What ROLLUP, CUBE, DISTINCT and a list of elements stand for, set by set (ISO/IEC 9075-2, <group by clause>).
-use Rattle.std.specs.Prelude.{◌≡◌, ◌↔◌, ◌≤◌, ◌<◌, ◌+◌, ◌-◌, ◌*◌, ◌/◌, ◌%◌, ◌^◌, ◌==◌, ℕ, Bool, List, [], ◌∷◌, ◌++◌, length, take, get_or, if◌then◌else◌}
+use Rattle.std.specs.Prelude.{◌≡◌, ◌↔◌, ◌≤◌, ◌<◌, ◌+◌, ◌-◌, ◌*◌, ◌/◌, ◌%◌, ◌^◌, ◌==◌, ℕ, Bool, List, ◌∷◌, ◌++◌, length, take, get_or, if◌then◌else◌, []}
 use Rattle.std.specs.List.{All, AllPairs, Contains, flat_map}
 
 -- The columns of some units.

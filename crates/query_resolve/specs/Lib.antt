@@ -1,6 +1,7 @@
 pub mod Laws
-pub mod Inside
 pub mod Functions
 pub mod Planning
 pub mod Resolution
 pub mod Shown
+pub mod Collecting
+pub mod Inside

@@ -1,14 +1,12 @@
 -- The set functions of a query and their filters, apart from where they lie in memory.
-use Rattle.std.specs.Prelude.{◌≡◌, List, ◌++◌, map}
+use Rattle.std.specs.Prelude.{List, map}
 use Rattle.std.specs.Borrow.{Bor}
-use Rattle.std.specs.List.{filter_map}
 use Rattle.std.specs.Option.{option_map}
 use Rattle.query_ast.specs.declared.expression.Predicate.{Predicate}
-use Rattle.semantics.specs.Columns.{Field}
-use Rattle.semantics.specs.Syntax.{FunctionForm, PredicateForm}
+use Rattle.semantics.specs.Syntax.{PredicateForm}
 use Rattle.query_ast.specs.Syntax.{predicate_form}
 use Rattle.query_resolve.specs.declared.planning.Planned.{Planned}
-use Rattle.semantics.specs.Names.{PlannedFunction, planned_function}
+use Rattle.semantics.specs.Names.{PlannedFunction}
 
 -- Filters behind references.
 abbrev pub filter_forms : List (Bor Predicate) → List PredicateForm
@@ -21,8 +19,3 @@ planned_form f = record { function = f.function; filter = option_map (λ p. pred
 -- Such functions.
 abbrev pub planned_forms : List Planned → List PlannedFunction
 planned_forms functions = map planned_form functions
-
--- Behind the old set functions stand these, in order, each with the place of its column; one whose column is not in the
--- schema is left out.
-abbrev pub AppendsPlanned : List Field → List FunctionForm → List Planned → List Planned → Type 0
-AppendsPlanned fields forms old new = planned_forms new ≡ planned_forms old ++ filter_map (planned_function fields) forms

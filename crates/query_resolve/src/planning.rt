@@ -9,8 +9,9 @@ ghost use Rattle.semantics.specs.Names.{distinct, planned_function};
 ghost use Rattle.semantics.specs.Inside.Same.{same_predicate, same_planned};
 ghost use Rattle.query_resolve.specs.Functions.{different_filters, filters_of, indexed_function, indexed_functions};
 ghost use Rattle.semantics.specs.SetFunctions.{expression_functions, functions_of, operand_functions};
-ghost use Rattle.query_resolve.specs.Inside.Collecting.{clause_functions, parts_functions, predicate_functions, range_functions};
-ghost use Rattle.query_resolve.specs.Planning.{AppendsPlanned, filter_forms, planned_form, planned_forms};
+ghost use Rattle.query_resolve.specs.Collecting.{clause_functions, parts_functions, predicate_functions, range_functions};
+ghost use Rattle.query_resolve.specs.Inside.Planning.{AppendsPlanned};
+ghost use Rattle.query_resolve.specs.Planning.{filter_forms, planned_form, planned_forms};
 
 use crate::function::{FilteredFunction, column_function};
 use crate::sameness::is_same_predicate;

@@ -12,7 +12,7 @@ use Rattle.semantics.specs.declared.query_fault.QueryFault.TheVariants as faults
 use Rattle.query_typecheck.specs.declared.scope.Clause.TheVariants as clause
 use Rattle.semantics.specs.declared.function.ColumnFunction.TheVariants as at
 use Rattle.semantics.specs.Faults.{query_faults}
-use Rattle.query_typecheck.specs.Inside.FirstFaults.{query_fault, tests_of}
+use Rattle.query_typecheck.specs.FirstFaults.{query_fault, tests_of}
 use Rattle.query_resolve.specs.Functions.{filters_of, indexed_functions}
 use Rattle.query_typecheck.specs.Standing.{IsViolation}
 use Rattle.query_typecheck.specs.Typing.{takes}

@@ -25,7 +25,7 @@ use Rattle.semantics.specs.SetFunctions.{functions_of}
 use Rattle.query_typecheck.specs.Typing.{IsTyped, may_stand}
 use Rattle.semantics.specs.Types.{is_average, key_expression, literal_kind, operand_kind}
 use Rattle.semantics.specs.Faults.{agreement_faults, argument_faults, atom_faults, clause_faults, column_faults, function_faults, group_faults, grouped_faults, header_faults, operand_faults, predicate_faults, query_faults, record_faults, same_kind, typed_column_faults, unless}
-use Rattle.query_typecheck.specs.Inside.FirstFaults.{agreement_fault, aggregate_fault, argument_fault, clause_fault, column_fault, expression_fault, fault_unless, first_fault, function_fault, grouped_at_fault, grouped_fault, header_fault, headers_fault, kind_fault, limit_fault, operand_fault, parts_fault, predicate_fault, query_fault, tests_of}
+use Rattle.query_typecheck.specs.FirstFaults.{agreement_fault, aggregate_fault, argument_fault, clause_fault, column_fault, expression_fault, fault_unless, first_fault, function_fault, grouped_at_fault, grouped_fault, header_fault, headers_fault, kind_fault, limit_fault, operand_fault, parts_fault, predicate_fault, query_fault, tests_of}
 use Rattle.query_typecheck.specs.Standing.{IsViolation}
 use Rattle.query_typecheck.proofs.FaultNames.{among_groups}
 use Rattle.query_typecheck.proofs.StandingWhole.{first_stands}

@@ -17,7 +17,7 @@ use Rattle.semantics.specs.Sets.{grouping_places}
 use Rattle.semantics.specs.Inside.Same.{same_predicate, same_planned}
 use Rattle.query_resolve.specs.Functions.{different_filters, filters_of, indexed_function}
 use Rattle.semantics.specs.SetFunctions.{expression_functions, functions_of, operand_functions, set_functions}
-use Rattle.query_resolve.specs.Inside.Collecting.{clause_functions, parts_functions, predicate_functions}
+use Rattle.query_resolve.specs.Collecting.{clause_functions, parts_functions, predicate_functions}
 use Rattle.query_resolve.proofs.AtomFunctions.{collected}
 use Rattle.query_typecheck.specs.Typing.{AreTypedParts, IsTyped, IsTypedClause, IsTypedExpression, IsTypedFunction, IsTypedOperand, IsTypedPredicate}
 use Rattle.semantics.specs.Types.{key_expression}

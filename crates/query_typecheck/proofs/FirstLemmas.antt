@@ -12,7 +12,7 @@ use Rattle.semantics.specs.Sets.{expansion, grouping_names, grouping_places}
 use Rattle.semantics.specs.SetFunctions.{functions_of}
 use Rattle.query_typecheck.specs.declared.scope.Clause.TheVariants as clause
 use Rattle.semantics.specs.Types.{key_expression}
-use Rattle.query_typecheck.specs.Inside.FirstFaults.{Answers, IsFirst, clause_fault, column_fault, expression_fault, first_fault, headers_fault, limit_fault, query_fault, tests_of}
+use Rattle.query_typecheck.specs.FirstFaults.{Answers, IsFirst, clause_fault, column_fault, expression_fault, first_fault, headers_fault, limit_fault, query_fault, tests_of}
 use Rattle.semantics.specs.Faults.{same_kind}
 use Rattle.query_typecheck.specs.Inside.Clauses.{clauses_fault, records_fault, rows_fault, select_fault}
 use Rattle.query_typecheck.proofs.TypedLemmas.{same_from_test, same_itself}

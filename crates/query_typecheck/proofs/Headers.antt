@@ -11,7 +11,7 @@ use Rattle.query_ast.specs.Syntax.{item_form}
 use Rattle.semantics.specs.Canonical.{header_text}
 use Rattle.semantics.specs.declared.query_fault.QueryFault.{QueryFault}
 use Rattle.semantics.specs.declared.query_fault.QueryFault.TheVariants.{RepeatedHeader}
-use Rattle.query_typecheck.specs.Inside.FirstFaults.{fault_unless, first_fault, header_fault, headers_fault}
+use Rattle.query_typecheck.specs.FirstFaults.{fault_unless, first_fault, header_fault, headers_fault}
 
 -- The headers of items.
 abbrev pub headers_of : List Item → List (List ℕ)

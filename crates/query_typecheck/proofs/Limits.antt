@@ -3,7 +3,7 @@ use Rattle.std.proofs.Common.{◌≡◌, ◌∙◌, ℕ, ◌<◌, nat_lt, Bool, 
 use Rattle.std.proofs.lemmas.Bool.Decides.{nat_tests}
 use Rattle.semantics.specs.declared.query_fault.QueryFault.TheVariants.{OverLimit}
 use Rattle.semantics.specs.declared.query_fault.QueryFault.{QueryFault}
-use Rattle.query_typecheck.specs.Inside.FirstFaults.{Answers, fault_unless, limit_fault}
+use Rattle.query_typecheck.specs.FirstFaults.{Answers, fault_unless, limit_fault}
 
 -- Whether a capped number is above a limit below the cap is whether the number is.
 capped_limit : (most n m : ℕ) → most < m → nat_lt most (min n m) ≡ nat_lt most n

@@ -3,7 +3,7 @@ use Rattle.std.proofs.Common.{◌≡◌, ◌∙◌, ℕ, ◌+◌, ◌<◌, List,
 use Rattle.std.specs.Option.{option_or}
 use Rattle.semantics.specs.Columns.{Field}
 use Rattle.semantics.specs.declared.query_fault.QueryFault.{QueryFault}
-use Rattle.query_typecheck.specs.Inside.FirstFaults.{column_fault, first_fault}
+use Rattle.query_typecheck.specs.FirstFaults.{column_fault, first_fault}
 
 -- Of three tests in a row it is the same which two are taken first.
 or_in_a_row : {A : Type 0} (a b c : Option A) → option_or a (option_or b c) ≡ option_or (option_or a b) c

@@ -18,7 +18,7 @@ use Rattle.query_typecheck.specs.declared.scope.Clause.TheVariants as clause
 use Rattle.semantics.specs.Names.{column_kind, kind_at, place_of, places_of, aggregate_of}
 use Rattle.semantics.specs.Sets.{grouping_names, grouping_places}
 use Rattle.query_typecheck.specs.Typing.{IsColumn, argument_names, may_stand, takes}
-use Rattle.query_typecheck.specs.Inside.FirstFaults.{first_fault, fault_unless, column_fault, grouped_at_fault, grouped_fault, name_fault, kind_fault, argument_fault, aggregate_fault, function_fault, grouping_fault, expression_fault, predicate_fault}
+use Rattle.query_typecheck.specs.FirstFaults.{first_fault, fault_unless, column_fault, grouped_at_fault, grouped_fault, name_fault, kind_fault, argument_fault, aggregate_fault, function_fault, grouping_fault, expression_fault, predicate_fault}
 use Rattle.semantics.specs.Faults.{same_kind}
 use Rattle.query_typecheck.specs.Standing.{IsFilterIn, IsOfOtherKind, IsWrittenIn, IsViolation, StandsIn, names, outer_names}
 use Rattle.query_resolve.proofs.Rows.{or_true}

@@ -26,7 +26,7 @@ use Rattle.semantics.specs.Sets.{expansion, grouping_names, grouping_places}
 use Rattle.semantics.specs.SetFunctions.{functions_of}
 use Rattle.query_typecheck.specs.Typing.{IsColumn, IsTypedAggregate, IsTypedName, IsTypedOperand, may_stand, IsOfKinds, takes}
 use Rattle.semantics.specs.Types.{aggregate_kind, key_expression, literal_kind, operand_kind}
-use Rattle.query_typecheck.specs.Inside.FirstFaults.{Answers, first_fault, column_fault, name_fault, expression_fault, operand_fault, agreement_fault, between_agreement, member_agreement, predicate_fault, parts_fault, clause_fault, header_fault, headers_fault, limit_fault, query_fault, tests_of}
+use Rattle.query_typecheck.specs.FirstFaults.{Answers, first_fault, column_fault, name_fault, expression_fault, operand_fault, agreement_fault, between_agreement, member_agreement, predicate_fault, parts_fault, clause_fault, header_fault, headers_fault, limit_fault, query_fault, tests_of}
 use Rattle.semantics.specs.Faults.{same_kind}
 use Rattle.query_typecheck.specs.Standing.{AreOfTwoKinds, Disagrees, IsAtomIn, IsViolation, StandsIn, StandsTwice, atoms, operands, parts_atoms}
 use Rattle.query_typecheck.proofs.TypedLemmas.{name_from_none, operand_from_none, same_itself}

@@ -17,7 +17,7 @@ use Rattle.query_typecheck.specs.declared.scope.Clause.TheVariants as clause
 use Rattle.semantics.specs.Names.{column_kind, kind_at, place_of}
 use Rattle.query_typecheck.specs.Typing.{IsGrouped, IsTypedName, IsTypedAggregate, IsTypedFunction, IsTypedGrouping, IsTypedExpression, IsTypedOperand, IsOfOneKind, IsTypedPredicate, AreTypedParts, IsTypedClause, IsOfKinds, argument_names, may_stand, takes}
 use Rattle.semantics.specs.Types.{literal_kind, operand_kind}
-use Rattle.query_typecheck.specs.Inside.FirstFaults.{first_fault, fault_unless, column_fault, grouped_at_fault, grouped_fault, name_fault, kind_fault, argument_fault, aggregate_fault, function_fault, grouping_fault, expression_fault, operand_fault, agreement_fault, predicate_fault, parts_fault, clause_fault}
+use Rattle.query_typecheck.specs.FirstFaults.{first_fault, fault_unless, column_fault, grouped_at_fault, grouped_fault, name_fault, kind_fault, argument_fault, aggregate_fault, function_fault, grouping_fault, expression_fault, operand_fault, agreement_fault, predicate_fault, parts_fault, clause_fault}
 use Rattle.semantics.specs.Faults.{same_kind}
 use Rattle.query_resolve.proofs.Rows.{or_true}
 

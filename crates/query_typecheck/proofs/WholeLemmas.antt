@@ -21,7 +21,7 @@ use Rattle.semantics.specs.Sets.{expansion, grouping_names, grouping_places}
 use Rattle.semantics.specs.SetFunctions.{functions_of}
 use Rattle.query_typecheck.specs.Typing.{IsColumn, IsTyped, IsTypedExpression}
 use Rattle.semantics.specs.Types.{key_expression}
-use Rattle.query_typecheck.specs.Inside.FirstFaults.{Answers, clause_fault, column_fault, expression_fault, first_fault, header_fault, limit_fault, headers_fault, query_fault, tests_of}
+use Rattle.query_typecheck.specs.FirstFaults.{Answers, clause_fault, column_fault, expression_fault, first_fault, header_fault, limit_fault, headers_fault, query_fault, tests_of}
 use Rattle.query_typecheck.proofs.TypedLemmas.{all_from_none, both_none, clause_from_none, expression_from_none, holds, none_from_all, none_from_clause, none_from_expression, none_of_both, passes}
 
 -- ---- headers

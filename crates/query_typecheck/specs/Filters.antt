@@ -1,5 +1,5 @@
 -- What holds of the different filters of a query.
-use Rattle.std.specs.Prelude.{◌≡◌, Option, List, [], map, slice_get, All}
+use Rattle.std.specs.Prelude.{◌≡◌, Option, List, map, slice_get, All, []}
 use Rattle.std.specs.Option.{option_and_then}
 use Rattle.semantics.specs.Columns.{Field}
 use Rattle.semantics.specs.Syntax.{PredicateForm, TreeForm}

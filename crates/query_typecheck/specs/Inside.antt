@@ -1,3 +1,2 @@
--- What private calls test, and the first fault of a query as they find it.
-pub mod FirstFaults
+-- What contracts of private calls alone say: no contract of a public call rests on it.
 pub mod Clauses

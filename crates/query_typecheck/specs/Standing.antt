@@ -1,5 +1,5 @@
 -- Which faults stand in a query under a schema, wherever in it they stand (ISO/IEC 9075-2, <query specification>).
-use Rattle.std.specs.Prelude.{◌≡◌, ◌≢◌, ◌<◌, ⊤, ◌⊎◌, ℕ, false, Option, Some, List, [], ◌∷◌, ◌++◌, map, length, Contains}
+use Rattle.std.specs.Prelude.{◌≡◌, ◌≢◌, ◌<◌, ⊤, ◌⊎◌, ℕ, false, Option, Some, List, ◌∷◌, ◌++◌, map, length, Contains, []}
 use Rattle.std.specs.Option.{option_map_or}
 use Rattle.semantics.specs.declared.kind.Kind.{Kind}
 use Rattle.semantics.specs.declared.kind.Kind.TheVariants as kind

@@ -1,5 +1,5 @@
 -- Which queries are typed under a schema (ISO/IEC 9075-2, <query specification>).
-use Rattle.std.specs.Prelude.{◌≡◌, ◌≢◌, ◌≤◌, ℕ, ⊤, Bool, true, false, not, Option, Some, None, List, [], ◌∷◌, map, length, All, AllPairs, Contains, IsSome, IsSomeAnd, IsTrue}
+use Rattle.std.specs.Prelude.{◌≡◌, ◌≢◌, ◌≤◌, ℕ, ⊤, Bool, true, false, not, Option, Some, None, List, ◌∷◌, map, length, All, AllPairs, Contains, IsSome, IsSomeAnd, IsTrue, []}
 use Rattle.semantics.specs.declared.kind.Kind.{Kind}
 use Rattle.semantics.specs.declared.kind.Kind.TheVariants as kind
 use Rattle.semantics.specs.Columns.{Field}

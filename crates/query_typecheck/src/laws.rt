@@ -5,7 +5,7 @@ ghost use Rattle.semantics.specs.Columns.{Field};
 ghost use Rattle.semantics.specs.declared.kind.Kind.{Kind};
 ghost use Rattle.semantics.specs.Syntax.{TreeForm};
 ghost use Rattle.semantics.specs.declared.query_fault.QueryFault.{QueryFault};
-ghost use Rattle.query_typecheck.specs.Inside.FirstFaults.{IsFirst, first_fault, query_fault};
+ghost use Rattle.query_typecheck.specs.FirstFaults.{IsFirst, first_fault, query_fault};
 ghost use Rattle.semantics.specs.Faults.{query_faults, same_kind};
 ghost use Rattle.query_typecheck.specs.Filters.{AreTypedFilters, LeadBack};
 ghost use Rattle.query_typecheck.specs.Standing.{IsViolation};

@@ -5,7 +5,7 @@ ghost use Rattle.std.specs.List.{flat_map};
 ghost use Rattle.values.specs.Schema.{fields_of};
 ghost use Rattle.query_ast.specs.Syntax.{element_form, units_form};
 ghost use Rattle.semantics.specs.Names.{group_names};
-ghost use Rattle.query_typecheck.specs.Inside.FirstFaults.{Answers, column_fault, first_fault};
+ghost use Rattle.query_typecheck.specs.FirstFaults.{Answers, column_fault, first_fault};
 
 use crate::typing::check_column;
 use query_ast::{GroupingElement, Text};

@@ -11,7 +11,7 @@ ghost use Rattle.query_resolve.specs.Functions.{indexed_functions};
 ghost use Rattle.semantics.specs.Sets.{expansion, grouping_places};
 ghost use Rattle.query_typecheck.specs.Typing.{IsTyped};
 ghost use Rattle.semantics.specs.Types.{key_expression};
-ghost use Rattle.query_typecheck.specs.Inside.FirstFaults.{Answers, clause_fault, expression_fault, first_fault, headers_fault, limit_fault, query_fault};
+ghost use Rattle.query_typecheck.specs.FirstFaults.{Answers, clause_fault, expression_fault, first_fault, headers_fault, limit_fault, query_fault};
 ghost use Rattle.query_typecheck.specs.Inside.Clauses.{clauses_fault, keys_fault, records_fault, rows_fault, select_fault};
 ghost use Rattle.query_typecheck.specs.Standing.{IsViolation};
 ghost use Rattle.semantics.specs.declared.query_fault.QueryFault.TheVariants.{OutOfMemory, RepeatedHeader};

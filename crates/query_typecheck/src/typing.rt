@@ -8,7 +8,7 @@ ghost use Rattle.query_ast.specs.Syntax.{expression_form, function_form, operand
 ghost use Rattle.semantics.specs.Syntax.{predicate_forms};
 ghost use Rattle.semantics.specs.Types.{aggregate_kind, literal_kind, operand_kind};
 ghost use Rattle.query_typecheck.specs.Typing.{may_stand, takes};
-ghost use Rattle.query_typecheck.specs.Inside.FirstFaults.{agreement_fault, aggregate_fault, Answers, argument_fault, between_agreement, column_fault, expression_fault, first_fault, function_fault, grouped_fault, grouping_fault, name_fault, operand_fault, parts_fault, predicate_fault, truth_fault};
+ghost use Rattle.query_typecheck.specs.FirstFaults.{agreement_fault, aggregate_fault, Answers, argument_fault, between_agreement, column_fault, expression_fault, first_fault, function_fault, grouped_fault, grouping_fault, name_fault, operand_fault, parts_fault, predicate_fault, truth_fault};
 ghost use Rattle.semantics.specs.Faults.{same_kind};
 
 use crate::scope::{Clause, Scope};

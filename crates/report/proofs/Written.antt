@@ -14,7 +14,7 @@ use Rattle.std.specs.declared.result.Result.{Result}
 use Rattle.report_rows.specs.Parts.{AreMade, items_of}
 use Rattle.report_rows.proofs.InParts.{parts-joined}
 use Rattle.semantics.specs.Texts.{cell_field, report_bytes}
-use Rattle.report.specs.Text.{rows_bytes}
+use Rattle.report.specs.Inside.Text.{rows_bytes}
 use Rattle.report.specs.Inside.Parts.{AreTextsOf, IsTextOf}
 
 -- one more row behind those that were written

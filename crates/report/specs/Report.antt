@@ -1,6 +1,6 @@
 -- The report of a query on the groups that its grouping sets find, and the list of refused lines.
 use Rattle.std.specs.List.{flat_map}
-use Rattle.std.specs.Prelude.{◌+◌, ◌<◌, ◌≤◌, ◌^◌, ℕ, List, [], ◌∷◌, length, max}
+use Rattle.std.specs.Prelude.{◌+◌, ◌<◌, ◌≤◌, ◌^◌, ℕ, List, ◌∷◌, length, max, []}
 use Rattle.semantics.specs.Columns.{Field, names_of}
 use Rattle.semantics.specs.declared.line_fault.LineFault.{LineFault}
 use Rattle.semantics.specs.Syntax.{TreeForm}

@@ -3,7 +3,7 @@ ghost use Rattle.std.specs.Prelude.{◌≡◌, ◌<◌, All, IfOk, length, map};
 ghost use Rattle.tables_groups.specs.Found.{row_of};
 ghost use Rattle.tables.specs.Planned.{AreFittingUnder};
 ghost use Rattle.report.specs.Report.{report_of};
-ghost use Rattle.report.specs.Text.{rows_bytes};
+ghost use Rattle.report.specs.Inside.Text.{rows_bytes};
 ghost use Rattle.report.specs.Inside.Parts.{AreTextsOf};
 ghost use Rattle.report_rows.specs.Sources.{cells_at};
 

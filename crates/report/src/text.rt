@@ -11,7 +11,7 @@ ghost use Rattle.report_rows.specs.Sources.{cells_at};
 ghost use Rattle.report.specs.Report.{report_of};
 ghost use Rattle.report_rows.specs.Shown.{cells_of};
 ghost use Rattle.semantics.specs.Texts.{cell_field, report_bytes};
-ghost use Rattle.report.specs.Text.{rows_bytes};
+ghost use Rattle.report.specs.Inside.Text.{rows_bytes};
 
 use crate::fields::{write_cells, write_group};
 use csv::{ByteRecord, Writer, WriterBuilder};

@@ -24,7 +24,7 @@ use Rattle.tables_groups.proofs.Order.{value_antisymmetric}
 use Rattle.report_rows.specs.declared.coded_key.CodedKey.{CodedKey}
 use Rattle.report_rows.specs.declared.source.Source.{Source}
 use Rattle.report_rows.specs.declared.source.Source.TheVariants.{KeyAt, CellAt, Always}
-use Rattle.report_rows.specs.Sources.{AreSourcesBySet}
+use Rattle.report_rows.specs.Inside.Sources.{AreSourcesBySet}
 use Rattle.report_rows.specs.Inside.SortEntries.{AreEnough, AreTelling, CodedForm, are_default_behind, are_default_from, are_same_sources, coded_form, coded_value, is_default_at, is_first_at, is_key_at, is_repeated, is_same_source, under_coded, value_there, with_key}
 use Rattle.report_rows.proofs.RowCodes.{by_key, under_values}
 use Rattle.report_rows.proofs.Rows.{by_columns, later, same-length, same-order}

@@ -10,7 +10,7 @@ use Rattle.semantics.specs.Columns.{Field}
 use Rattle.semantics.specs.Syntax.{PredicateForm, TreeForm}
 use Rattle.query_typecheck.specs.declared.scope.Clause.TheVariants as clause
 use Rattle.semantics.specs.Names.{kind_at}
-use Rattle.query_typecheck.specs.Inside.FirstFaults.{query_fault}
+use Rattle.query_typecheck.specs.FirstFaults.{query_fault}
 use Rattle.semantics.specs.SetFunctions.{functions_of}
 use Rattle.semantics.specs.Sets.{grouping_places, sets_of}
 use Rattle.query_typecheck.specs.Typing.{IsTyped, IsTypedClause, IsTypedPredicate}
@@ -22,7 +22,7 @@ use Rattle.tables_groups.specs.Found.{row_of}
 use Rattle.semantics.specs.Rows.{is_having_true, rows_having_true}
 use Rattle.semantics.specs.Order.{rows_in_order, before}
 use Rattle.report_rows.proofs.Filtering.{fit-having_true}
-use Rattle.report_rows.proofs.Sorting.{all-in_order}
+use Rattle.tables_groups.proofs.Sorting.{all-in_order}
 
 -- ---- typing
 

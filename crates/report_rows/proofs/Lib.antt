@@ -1,4 +1,3 @@
-pub mod Sorting
 pub mod Sameness
 pub mod Places
 pub mod Totals

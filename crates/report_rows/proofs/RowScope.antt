@@ -31,9 +31,9 @@ use Rattle.tables_groups.specs.declared.group.Group.{Group}
 use Rattle.tables_groups.specs.Fitting.{AreFitting}
 use Rattle.tables_groups.specs.Found.{row_of}
 use Rattle.report_rows.specs.declared.source.Source.TheVariants.{KeyAt, CellAt}
-use Rattle.report_rows.specs.Having.{AreHaving, IsHavingFor, having_truth, row_scope, row_values}
-use Rattle.report_rows.specs.Planned.{FitsUnder}
-use Rattle.report_rows.specs.Sources.{IsSourceOf}
+use Rattle.report_rows.specs.Inside.Having.{AreHaving, IsHavingFor, having_truth, row_scope, row_values}
+use Rattle.report_rows.specs.Inside.Planned.{FitsUnder}
+use Rattle.report_rows.specs.Inside.Sources.{IsSourceOf}
 use Rattle.report_rows.proofs.Keeping.{group-fits}
 use Rattle.report_rows.proofs.RowValues.{shown-of, within}
 

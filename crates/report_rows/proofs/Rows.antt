@@ -25,7 +25,7 @@ use Rattle.semantics.specs.Found.{Found, set_of}
 use Rattle.tables_groups.specs.Found.{row_of}
 use Rattle.semantics.specs.Rows.{rows_having_true}
 use Rattle.semantics.specs.Order.{grouping_values, under_key, under_keys, before, in_order, rows_in_order}
-use Rattle.report_rows.specs.Order.{NoneBefore, Ascends}
+use Rattle.tables_groups.specs.Ascending.{NoneBefore, Ascends}
 use Rattle.report_rows.specs.Inside.SortEntries.{AreEnough, CodedForm, EntryForm, HasKeyOf, IsCodableRow, by_code, entry_at, under_coded}
 use Rattle.tables_groups.specs.Fitting.{AreFitting}
 use Rattle.report_rows.specs.Laws.{IsTheOrder, IsBlind}
@@ -33,7 +33,8 @@ use Rattle.report_rows.proofs.Filtering.{bag-having_true, fit-having_true}
 use Rattle.report_rows.proofs.Totals.{before-total, by_code-total}
 use Rattle.report_rows.proofs.RowCodes.{by_key, codes-tell, under_values}
 use Rattle.sort_keys.specs.SortKeys.{parts_order}
-use Rattle.report_rows.proofs.Sorting.{Apart, apart-in_order, ascends-in_order, ascends-sorted, bag-permutation, one-list, weigh-in_order}
+use Rattle.tables_groups.proofs.Bags.{bag-permutation}
+use Rattle.tables_groups.proofs.Sorting.{Apart, apart-in_order, ascends-in_order, ascends-sorted, one-list, weigh-in_order}
 use Rattle.report_rows.proofs.Sameness.{both-tied, found-tells, same_found}
 use Rattle.report_rows.proofs.Maps.{map-twice}
 use Rattle.report_rows.proofs.Places.{different-distinct, order-same_set}

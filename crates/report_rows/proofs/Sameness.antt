@@ -12,7 +12,7 @@ use Rattle.semantics.specs.Aggregates.{Summary, plain, ratio}
 use Rattle.semantics.specs.Groups.{key_order}
 use Rattle.tables_groups.proofs.Order.{value_total, value_antisymmetric, key_total, key_antisymmetric}
 use Rattle.semantics.specs.Found.{Found}
-use Rattle.report_rows.proofs.Sorting.{Tells}
+use Rattle.tables_groups.proofs.Sorting.{Tells}
 
 -- where two orders in a row tie, each does
 pub both-tied : (a b : Ordering) → ordering_then a b ≡ Equal → (a ≡ Equal) × (b ≡ Equal)

@@ -12,7 +12,8 @@ use Rattle.semantics.specs.Rows.{cell_value, expression_shown}
 use Rattle.query_plan.specs.Planned.{PlannedQuery}
 use Rattle.report_rows.specs.declared.source.Source.{Source}
 use Rattle.report_rows.specs.Inside.SortEntries.{coded_value, value_there}
-use Rattle.report_rows.specs.Sources.{AreSourcesBySet, AreSourcesFor, AreSourcesOf, AreSourcesOfEach, ForEachSet, shown_at, sources_at}
+use Rattle.report_rows.specs.Inside.Sources.{AreSourcesBySet, AreSourcesFor}
+use Rattle.report_rows.specs.Sources.{AreSourcesOf, AreSourcesOfEach, ForEachSet, shown_at, sources_at}
 use Rattle.report_rows.proofs.Maps.{map-twice}
 
 -- ---- a list for each grouping set

@@ -1,2 +1,5 @@
--- What private calls compute and keep. No promise rests on it.
+-- What contracts of private calls alone say: no contract of a public call rests on it.
 pub mod SortEntries
+pub mod Planned
+pub mod Having
+pub mod Sources

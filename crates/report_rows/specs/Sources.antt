@@ -1,12 +1,8 @@
 -- Where the rows of a grouping set have what they show.
-use Rattle.std.specs.Prelude.{◌≡◌, ◌<◌, ℕ, ⊤, List, [], ◌∷◌, map, slice_get, slice_index_or, unwrap_or}
-use Rattle.std.specs.Borrow.{Bor}
+use Rattle.std.specs.Prelude.{◌≡◌, ℕ, ⊤, List, ◌∷◌, map, slice_get, slice_index_or, unwrap_or, []}
 use Rattle.std.specs.Global.{Vec}
 use Rattle.values.specs.Datum.{datum_of}
 use Rattle.semantics.specs.Values.{null}
-use Rattle.semantics.specs.Syntax.{ExpressionForm}
-use Rattle.query_ast.specs.declared.expression.Expression.{Expression}
-use Rattle.query_ast.specs.Syntax.{expression_form}
 use Rattle.query_plan.specs.Planned.{PlannedQuery}
 use Rattle.semantics.specs.Aggregates.{Summary, plain}
 use Rattle.semantics.specs.Groups.{Key}
@@ -20,16 +16,6 @@ abbrev pub shown_at : Key → List Summary → Source → Summary
 shown_at key cells (KeyAt place) = plain (slice_index_or key place null)
 shown_at key cells (CellAt place) = unwrap_or (slice_get cells place) (plain null)
 shown_at key cells (Always value) = plain (datum_of value)
-
--- each row of the grouping set has there what it shows for the expression
-abbrev pub IsSourceOf : PlannedQuery → List ℕ → ExpressionForm → Source → Type 0
-IsSourceOf plan set e source = (key : Key) (cells : List Summary) → shown_at key cells source ≡ expression_shown plan.fields plan.query set key cells e
-
--- a place is one of the values of a key of so many columns, or one of so many cells
-abbrev pub IsWithin : ℕ → ℕ → Source → Type 0
-IsWithin columns functions (KeyAt place) = place < columns
-IsWithin columns functions (CellAt place) = place < functions
-IsWithin columns functions (Always value) = ⊤
 
 -- each row of the grouping set has there what it shows for the items of SELECT
 abbrev pub AreSourcesOf : PlannedQuery → List ℕ → List Source → Type 0
@@ -53,19 +39,3 @@ sources_at all index = slice_index_or (map (λ sources. sources.items) all) inde
 -- what the row of a group has where its grouping set has what it shows
 abbrev pub cells_at : List (Vec Source) → Found → List Summary
 cells_at all row = map (shown_at row.1.key row.1.cells) (sources_at all row.0)
-
--- ---- places for a list of expressions
-
--- the forms of expressions of the code
-abbrev pub expression_forms : List (Bor Expression) → List ExpressionForm
-expression_forms expressions = map (λ e. expression_form e.now) expressions
-
--- each row of the grouping set has there what it shows for these expressions
-abbrev pub AreSourcesFor : PlannedQuery → List ExpressionForm → List ℕ → List Source → Type 0
-AreSourcesFor plan es set sources = (key : Key) (cells : List Summary) → map (shown_at key cells) sources ≡ map (expression_shown plan.fields plan.query set key cells) es
-
--- ---- places for one expression
-
--- the rows of each of these grouping sets have there, at one place for each set, what they show for the expression
-abbrev pub AreSourcesBySet : PlannedQuery → ExpressionForm → List (List ℕ) → List Source → Type 0
-AreSourcesBySet plan e sets sources = (key : Key) (cells : List Summary) → map (shown_at key cells) sources ≡ map (λ set. expression_shown plan.fields plan.query set key cells e) sets

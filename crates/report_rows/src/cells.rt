@@ -6,7 +6,7 @@ ghost use Rattle.values.specs.Schema.{fields_of};
 ghost use Rattle.semantics.specs.Aggregates.{plain};
 ghost use Rattle.tables_groups.specs.Cells.{summary_of};
 ghost use Rattle.semantics.specs.Rows.{cell_value, grouping_number, grouping_shown, is_rolled_up};
-ghost use Rattle.report_rows.specs.Having.{row_values};
+ghost use Rattle.report_rows.specs.Inside.Having.{row_values};
 ghost use Rattle.report_rows.specs.Sources.{shown_at};
 
 use crate::source::Source;

@@ -3,7 +3,7 @@ ghost use Rattle.std.specs.Prelude.{◌≡◌, IfOk, map};
 ghost use Rattle.tables_groups.specs.Found.{row_of};
 ghost use Rattle.tables_groups.specs.Fitting.{AreFitting};
 ghost use Rattle.semantics.specs.Rows.{rows_having_true};
-ghost use Rattle.report_rows.specs.Having.{AreHaving};
+ghost use Rattle.report_rows.specs.Inside.Having.{AreHaving};
 
 use crate::cells::put_row;
 use crate::row_scope::RowScope;

@@ -19,8 +19,8 @@ pub(crate) struct RowScope<'a, 'p> {
 impl RowScope<'_, '_> {
     ghost use Rattle.semantics.specs.Syntax.{ExpressionForm};
     ghost use Rattle.query_eval.specs.Binding.{GivesExpression};
-    ghost use Rattle.report_rows.specs.Having.{row_scope};
-    ghost use Rattle.report_rows.specs.Sources.{IsSourceOf, IsWithin};
+    ghost use Rattle.report_rows.specs.Inside.Having.{row_scope};
+    ghost use Rattle.report_rows.specs.Inside.Sources.{IsSourceOf, IsWithin};
 
     /// Where the list of the values of a row has what is at a place of the row.
     fn value_source(&self, source: Source) -> ValueSource
@@ -38,7 +38,7 @@ impl RowScope<'_, '_> {
 }
 
 impl Scope for RowScope<'_, '_> {
-    ghost use Rattle.report_rows.specs.Having.{row_scope};
+    ghost use Rattle.report_rows.specs.Inside.Having.{row_scope};
 
     ghost form = { λ scope. row_scope scope.plan.now scope.set.now };
 

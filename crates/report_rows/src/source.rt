@@ -9,7 +9,8 @@ ghost use Rattle.semantics.specs.SetFunctions.{functions_of};
 ghost use Rattle.semantics.specs.Aggregates.{Summary, plain};
 ghost use Rattle.semantics.specs.Groups.{Key};
 ghost use Rattle.semantics.specs.Rows.{name_shown};
-ghost use Rattle.report_rows.specs.Sources.{AreSourcesBySet, AreSourcesFor, AreSourcesOfEach, ForEachSet, IsSourceOf, IsWithin, expression_forms, shown_at, sources_at};
+ghost use Rattle.report_rows.specs.Inside.Sources.{AreSourcesBySet, AreSourcesFor, IsSourceOf, IsWithin, expression_forms};
+ghost use Rattle.report_rows.specs.Sources.{AreSourcesOfEach, ForEachSet, shown_at, sources_at};
 
 use crate::cells::grouping_value;
 use crate::view::PlanView;

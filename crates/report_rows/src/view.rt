@@ -22,7 +22,7 @@ pub struct PlanView<'a> {
 
 impl<'a> Model for PlanView<'a> {
     ghost use Rattle.query_plan.specs.Planned.{PlannedQuery};
-    ghost use Rattle.query_plan.specs.Inside.Coding.{coded_planned};
+    ghost use Rattle.query_plan.specs.Coding.{coded_planned};
 
     ghost Value = { PlannedQuery };
 

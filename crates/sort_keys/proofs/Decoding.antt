@@ -21,7 +21,8 @@ use Rattle.values.specs.Datum.{datum_of, data_of}
 use Rattle.values.specs.declared.value.Value.{Value}
 use Rattle.values.specs.declared.value.Value.TheVariants as v
 use Rattle.sort_keys.specs.Codes.{IsCodable, number_code, value_code, values_code}
-use Rattle.sort_keys.specs.Decoding.{IsStorable, IsCodeOf, KeyOf, IsSplit, IsNumberSplit, IsWideSplit}
+use Rattle.sort_keys.specs.Decoding.{IsStorable, IsCodeOf, KeyOf}
+use Rattle.sort_keys.specs.Inside.Decoding.{IsSplit, IsNumberSplit, IsWideSplit}
 use Rattle.sort_keys.specs.SortKeys.{with_digits}
 use Rattle.sort_keys.proofs.Bytes.{highest}
 use Rattle.sort_keys.proofs.Digits.{number-digits}

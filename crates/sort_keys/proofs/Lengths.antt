@@ -5,7 +5,8 @@ use Rattle.std.proofs.lemmas.List.{length-append, length-map}
 use Rattle.std.specs.List.{position}
 use Rattle.semantics.specs.Values.{Datum, boolean, whole, text, null}
 use Rattle.sort_keys.specs.Codes.{value_code}
-use Rattle.sort_keys.specs.Decoding.{IsCodeLength, IsCodeSplit, IsStorable}
+use Rattle.sort_keys.specs.Inside.Decoding.{IsCodeLength}
+use Rattle.sort_keys.specs.Decoding.{IsCodeSplit, IsStorable}
 use Rattle.sort_keys.proofs.Decoding.{text-end}
 use Rattle.sort_keys.proofs.Values.{Stands, stands, lower, under, over, upper}
 

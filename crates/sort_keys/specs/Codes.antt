@@ -1,5 +1,5 @@
 -- The codes of values: bytes that stand to each other as the values do.
-use Rattle.std.specs.Prelude.{ℕ, suc, ℤ, pos, negsuc, ⊤, ◌+◌, ◌-◌, ◌^◌, ◌<◌, nat_lt, true, false, List, [], ◌∷◌, ◌++◌, map, if◌then◌else◌}
+use Rattle.std.specs.Prelude.{ℕ, suc, ℤ, pos, negsuc, ⊤, ◌+◌, ◌-◌, ◌^◌, ◌<◌, nat_lt, true, false, List, ◌∷◌, ◌++◌, map, if◌then◌else◌, []}
 use Rattle.std.specs.Int.{bytes_high_first}
 use Rattle.std.specs.List.{AllByRecursion, flat_map}
 use Rattle.semantics.specs.Syntax.{KeyForm}

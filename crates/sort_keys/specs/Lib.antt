@@ -2,3 +2,4 @@ pub mod Codes
 pub mod SortKeys
 pub mod Laws
 pub mod Decoding
+pub mod Inside

@@ -1,7 +1,8 @@
 //! Values, read from their codes.
 ghost use Rattle.std.specs.Prelude.{◌≡◌, ◌-◌, ◌<◌, ◌≤◌, ◌≤ℤ◌, pos, IfOk, length, map};
 ghost use Rattle.values.specs.Datum.{data_of, datum_of};
-ghost use Rattle.sort_keys.specs.Decoding.{AreDecoded, IsNumberSplit, IsSplit, IsTextSplit, IsWideSplit};
+ghost use Rattle.sort_keys.specs.Decoding.{AreDecoded};
+ghost use Rattle.sort_keys.specs.Inside.Decoding.{IsNumberSplit, IsSplit, IsTextSplit, IsWideSplit};
 
 use crate::code::{FALSE, HALF, NUMBER, NUMBER_ABOVE, NUMBER_BELOW, TEXT, TRUE};
 use crate::split::text_len;

@@ -1,6 +1,7 @@
 //! Codes, parted from the bytes behind them.
 ghost use Rattle.std.specs.Prelude.{◌≡◌, ◌==◌, ◌<◌, ◌++◌, Some, IfSome, length, position};
-ghost use Rattle.sort_keys.specs.Decoding.{IsCodeLength, IsCodeSplit};
+ghost use Rattle.sort_keys.specs.Inside.Decoding.{IsCodeLength};
+ghost use Rattle.sort_keys.specs.Decoding.{IsCodeSplit};
 
 use crate::code::{NUMBER, NUMBER_ABOVE, NUMBER_BELOW, TEXT, TEXT_END};
 use memchr::memchr;

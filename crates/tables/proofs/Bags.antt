@@ -1,8 +1,5 @@
 -- What holds of each thing of a list: of lists made from others, and of lists that are the same bag.
-use Rattle.std.proofs.Common.{◌≡◌, ◌+◌, ℕ, Bool, true, false, not, cond, List, [], ◌∷◌, ◌++◌, map, Option, Some, None, unwrap_or, refl, sym, ap, ◌∙◌, arith}
-use Rattle.std.proofs.lemmas.List.Recursion.{is_sum_by}
-use Rattle.std.proofs.lemmas.List.Sorted.{sum_by-IsPermutation}
-use Rattle.std.specs.List.Sorted.{IsPermutation}
+use Rattle.std.proofs.Common.{◌≡◌, ◌+◌, ℕ, Bool, true, false, not, cond, List, [], ◌∷◌, ◌++◌, map, Option, Some, None, unwrap_or, refl, ap, ◌∙◌, arith}
 use Rattle.std.specs.Bool.{Decides}
 use Rattle.std.specs.List.{AllByRecursion, cons_option, filter, filter_map, find, flat_map}
 use Rattle.semantics.specs.Names.{distinct}
@@ -88,29 +85,7 @@ all-decided t P decides xs ys same h =
 
 -- ---- weights
 
-pub weigh-append : {X : Type 0} (f : X → ℕ) (xs ys : List X) → weigh f (xs ++ ys) ≡ weigh f xs + weigh f ys
-weigh-append f [] ys = omega arith
-weigh-append f (x ∷ xs) ys = let h = weigh-append f xs ys in omega (arith, h)
-
-pub weigh-map : {X Y : Type 0} (f : Y → ℕ) (g : X → Y) (xs : List X) → weigh f (map g xs) ≡ weigh (λ x. f (g x)) xs
-weigh-map f g [] = refl
-weigh-map f g (x ∷ xs) = ap (λ n. f (g x) + n) (weigh-map f g xs)
-
-pub weigh-flat_map : {X Y : Type 0} (f : Y → ℕ) (g : X → List Y) (xs : List X) → weigh f (flat_map g xs) ≡ weigh (λ x. weigh f (g x)) xs
-weigh-flat_map f g [] = refl
-weigh-flat_map f g (x ∷ xs) = weigh-append f (g x) (flat_map g xs) ∙ ap (λ n. weigh f (g x) + n) (weigh-flat_map f g xs)
-
 -- things that weigh the same
 pub weigh-same : {X : Type 0} (f g : X → ℕ) (xs : List X) → ((x : X) → f x ≡ g x) → weigh f xs ≡ weigh g xs
 weigh-same f g [] h = refl
 weigh-same f g (x ∷ xs) h = let a = h x in let b = weigh-same f g xs h in omega (arith, a, b)
-
-pub bag-permutation : {X : Type 0} (xs ys : List X) → IsPermutation xs ys → SameBag xs ys
-bag-permutation xs ys moved f =
-    is_sum_by (weigh f) f refl (λ _ _. refl) xs ∙ sym (sum_by-IsPermutation f xs ys moved) ∙ sym (is_sum_by (weigh f) f refl (λ _ _. refl) ys)
-
-pub bag-append : {X : Type 0} (xs ys us vs : List X) → SameBag xs ys → SameBag us vs → SameBag (xs ++ us) (ys ++ vs)
-bag-append xs ys us vs a b = λ f. let p = weigh-append f xs us in let q = weigh-append f ys vs in let h = a f in let k = b f in omega (arith, p, q, h, k)
-
-pub bag-map : {X Y : Type 0} (g : X → Y) (xs ys : List X) → SameBag xs ys → SameBag (map g xs) (map g ys)
-bag-map g xs ys a = λ f. weigh-map f g xs ∙ a (λ x. f (g x)) ∙ sym (weigh-map f g ys)

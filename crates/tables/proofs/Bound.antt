@@ -3,7 +3,7 @@ use Rattle.std.proofs.Common.{◌≡◌, ℕ, zero, suc, List, [], ◌∷◌, le
 use Rattle.std.proofs.lemmas.List.{length-map}
 use Rattle.std.specs.Option.{option_and_then}
 use Rattle.semantics.specs.Columns.{Field}
-use Rattle.semantics.specs.Syntax.{PredicateForm, TreeForm}
+use Rattle.semantics.specs.Syntax.{PredicateForm}
 use Rattle.query_typecheck.specs.Filters.{filters_at}
 use Rattle.semantics.specs.Names.{PlannedFunction}
 use Rattle.query_resolve.specs.Functions.{filters_of, indexed_function, indexed_functions}
@@ -15,6 +15,7 @@ use Rattle.tables_groups.specs.Functions.{aggregate_of, filter_at}
 use Rattle.semantics.specs.Groups.{Row}
 use Rattle.semantics.specs.Found.{aggregate_function, aggregate_functions}
 use Rattle.tables.specs.Functions.{filter_tests}
+use Rattle.query_plan.specs.Planned.{PlannedQuery}
 
 -- what the filter with an index keeps, where there is such a filter
 got : (fields : List Field) (filters : List PredicateForm) (index : ℕ) (p : PredicateForm) → slice_get filters index ≡ Some p
@@ -49,12 +50,12 @@ each-bound fields filters (f ∷ fs) e =
     λ i. record { function = f.function; filter = this i } ∷ more i
 
 -- where the index of each function leads to its filter, the functions by their indexes are those of the query
-pub bound-functions : (fields : List Field) (q : TreeForm) → map (aggregate_of (filter_tests fields q)) (indexed_functions fields q) ≡ aggregate_functions fields q
-bound-functions fields q = each-bound fields (filters_of fields q) (functions_of fields q) (indexes_lead_back fields q)
+pub bound-functions : (plan : PlannedQuery) → map (aggregate_of (filter_tests plan)) (indexed_functions plan.fields plan.query) ≡ aggregate_functions plan.fields plan.query
+bound-functions plan = each-bound plan.fields (filters_of plan.fields plan.query) (functions_of plan.fields plan.query) (indexes_lead_back plan.fields plan.query)
 
 -- as many
-pub as-many : (fields : List Field) (q : TreeForm) → length (aggregate_functions fields q) ≡ length (indexed_functions fields q)
-as-many fields q = length-map (functions_of fields q) (aggregate_function fields) ∙ sym (length-map (functions_of fields q) (indexed_function (filters_of fields q)))
+pub as-many : (plan : PlannedQuery) → length (aggregate_functions plan.fields plan.query) ≡ length (indexed_functions plan.fields plan.query)
+as-many plan = length-map (functions_of plan.fields plan.query) (aggregate_function plan.fields) ∙ sym (length-map (functions_of plan.fields plan.query) (indexed_function (filters_of plan.fields plan.query)))
 
 -- the marks of a record by the filters of a query
 pub marks-kept : (fields : List Field) (filters : List PredicateForm) (row : Row) → map (λ p. passes fields p row) filters ≡ map (λ keeps. keeps row) (map (passes fields) filters)

@@ -8,9 +8,9 @@ use Rattle.semantics.specs.Groups.{Row, SetGroup, keys, members}
 use Rattle.semantics.specs.Found.{group_summary, Found, all_found, found_group}
 use Rattle.tables_groups.specs.GroupSummaries.{group_summaries, group_summary_in}
 use Rattle.tables_groups.specs.Bags.{SameBag, weigh}
-use Rattle.tables.proofs.Bags.{weigh-append, weigh-map}
 use Rattle.tables_groups.specs.Found.{rows_from}
-use Rattle.tables.specs.Sets.{AreGroupsOfSet}
+use Rattle.tables_groups.proofs.Bags.{weigh-append, weigh-map}
+use Rattle.tables.specs.Inside.Sets.{AreGroupsOfSet}
 
 -- the groups of one grouping set, whose index in the list of sets is this one
 abbrev pub set_groups : List Row → ℕ × List ℕ → List SetGroup

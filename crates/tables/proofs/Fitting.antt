@@ -18,7 +18,7 @@ use Rattle.tables_groups.specs.declared.group.Group.{Group}
 use Rattle.tables_groups.specs.Fitting.{AreFitting, HasType}
 use Rattle.tables_groups.specs.Found.{rows_from}
 use Rattle.tables_groups.specs.GroupSummaries.{group_summary_in}
-use Rattle.tables_groups.specs.Inside.Typed.{AreOfTypes, IsKeyOf}
+use Rattle.tables_groups.specs.Typed.{AreOfTypes, IsKeyOf}
 use Rattle.tables.proofs.Bags.{all-append}
 
 -- ---- things of which each is apart from all later ones

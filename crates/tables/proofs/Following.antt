@@ -1,12 +1,12 @@
 -- A result over the front of an input and one over its rest, put together.
-use Rattle.std.proofs.Common.{◌≡◌, ◌+◌, ◌<◌, ◌≤◌, ◌==◌, ℕ, zero, suc, Bool, true, false, cond, nat_le, Decides, List, [], ◌∷◌, ◌++◌, All, length, map, refl, sym, ap, subst, ◌∙◌, arith, append-nil, length-append}
+use Rattle.std.proofs.Common.{◌≡◌, ◌+◌, ◌<◌, ◌≤◌, ◌==◌, ℕ, zero, suc, Bool, true, false, cond, nat_eq, nat_le, Decides, List, [], ◌∷◌, ◌++◌, All, length, map, refl, sym, ap, subst, ◌∙◌, arith, append-nil, length-append}
 use Rattle.std.proofs.lemmas.Bool.Decides.{Decides-by_and, nat_tests}
 use Rattle.std.proofs.lemmas.List.{map-append, length-map}
-use Rattle.std.proofs.lemmas.List.Elements.{All-append, All-from_recursion, All-head, All-map, All-nil, All-same, All-tail, All-weaker, recursion_from_All}
+use Rattle.std.proofs.lemmas.List.Elements.{All-append, All-cons, All-from_recursion, All-head, All-map, All-nil, All-same, All-tail, All-weaker, recursion_from_All}
 use Rattle.std.proofs.lemmas.List.Recursion.{is_sum_by}
 use Rattle.std.proofs.lemmas.List.Sums.{sum_by-cons}
 use Rattle.std.proofs.lemmas.List.Splits.{length-slice_split}
-use Rattle.std.specs.List.{list_all, onto_first, slice_split}
+use Rattle.std.specs.List.{IsDistinct, list_all, onto_first, slice_split}
 use Rattle.semantics.specs.Columns.{Field}
 use Rattle.semantics.specs.declared.line_fault.LineFault.{LineFault}
 use Rattle.semantics.specs.Records.{valid_records, refused_lines}
@@ -14,13 +14,13 @@ use Rattle.semantics.specs.Lines.{line_feed, lines, without_empty_last}
 use Rattle.lines.specs.Pieces.{AreWholeLines}
 use Rattle.lines.proofs.Fronts.{valid-whole_lines, lines-whole_lines, refused-whole_lines}
 use Rattle.tables_groups.specs.Bags.{SameBag, weigh}
-use Rattle.tables.specs.declared.piece_refusals.PieceRefusals.{PieceRefusals}
-use Rattle.tables.specs.Notes.{AreLinesBehind, AreLinesOf, IsWellNumbered, Noted, line_count, note_in, note_of, refused_lines_from}
-use Rattle.tables.specs.Partials.{one_piece, whole_piece}
+use Rattle.semantics.specs.Order.{in_order}
+use Rattle.tables.specs.Inside.Notes.{AreLinesBehind, AreLinesOf}
+use Rattle.tables.specs.Notes.{IsWellNumbered, Noted, line_count, note_of, note_order, refused_lines_from}
+use Rattle.tables.specs.Partials.{note_of_one, notes_of_one, one_piece, whole_piece}
 use Rattle.tables.specs.Pieces.{IndexedPiece, IsCutInto, all_lines, records_of, refused_lines_within}
 use Rattle.tables.proofs.Bags.{all-decided}
 use Rattle.tables.proofs.Cutting.{cut-lines, cut-records, cut-refused}
-use Rattle.tables.proofs.Merging.{no-notes, one-note}
 use Rattle.tables.proofs.Numbered.{lines-in_order}
 
 abbrev shift : ℕ → ℕ × LineFault → ℕ × LineFault
@@ -159,47 +159,11 @@ followed-count fields front back pieces more whole c d =
     let rest = count-refused fields back more d in
     omega (arith, joined, both, same, first, rest)
 
-pub followed-refused : (fields : List Field) (front back : List ℕ) (pieces more : List IndexedPiece) (notes others : List Noted) (before : ℕ) (found all : List (ℕ × LineFault))
-    → AreWholeLines front → IsCutInto front pieces → IsCutInto back more → SameBag (map (note_of fields) pieces) notes → SameBag (map (note_of fields) more) others
-    → AreLinesOf notes found → AreLinesBehind before others found all → before ≡ length (all_lines pieces) → all ≡ refused_lines fields (front ++ back)
-followed-refused fields front back pieces more notes others before found all whole c d same also are behind counted =
-    behind.behind
-    ∙ ap (λ ls. ls ++ map (shift before) behind.lines) (refused-in_order fields front pieces notes found c same are)
-    ∙ ap (λ ls. refused_lines fields front ++ map (shift before) ls) (refused-in_order fields back more others behind.lines d also behind.of_notes)
-    ∙ ap (λ n. refused_lines fields front ++ map (shift n) (refused_lines fields back)) (counted ∙ count-lines front pieces c)
-    ∙ sym (refused-whole_lines fields front back whole)
-
 -- ---- bytes behind a front that is whole lines
 
 -- an input is cut into the one piece that is all of it
 pub one-piece : (input : List ℕ) → IsCutInto input (whole_piece input)
 one-piece input = record { in_order = λ k lt. absurd (omega (arith, lt)); joined = append-nil input; feeds = tt }
-
-pub records-behind : (fields : List Field) (front rest : List ℕ) (pieces : List IndexedPiece) → AreWholeLines front → IsCutInto front pieces
-    → records_of fields (whole_piece (front ++ rest)) ≡ records_of fields pieces ++ valid_records fields rest
-records-behind fields front rest pieces whole c =
-    followed-records fields front rest pieces (whole_piece rest) whole c (one-piece rest) ∙ ap (λ rows. records_of fields pieces ++ rows) (append-nil (valid_records fields rest))
-
-pub lines-behind : (front rest : List ℕ) (pieces : List IndexedPiece) → AreWholeLines front → IsCutInto front pieces
-    → length (lines (front ++ rest)) ≡ length (all_lines pieces) + length (lines rest)
-lines-behind front rest pieces whole c =
-    followed-lines front rest pieces (whole_piece rest) whole c (one-piece rest) ∙ ap (λ n. length (all_lines pieces) + n) (whole-lines rest)
-
-pub count-behind : (fields : List Field) (front rest : List ℕ) (pieces : List IndexedPiece) → AreWholeLines front → IsCutInto front pieces
-    → length (refused_lines_within fields (whole_piece (front ++ rest))) ≡ length (refused_lines_within fields pieces) + length (refused_lines fields rest)
-count-behind fields front rest pieces whole c =
-    followed-count fields front rest pieces (whole_piece rest) whole c (one-piece rest)
-    ∙ ap (λ (ls : List (ℕ × LineFault)). length (refused_lines_within fields pieces) + length ls) (append-nil (refused_lines fields rest))
-
-pub refused-behind : (fields : List Field) (front rest : List ℕ) (pieces : List IndexedPiece) (notes : List Noted) (before : ℕ) (found more all : List (ℕ × LineFault))
-    → AreWholeLines front → IsCutInto front pieces → SameBag (map (note_of fields) pieces) notes → AreLinesOf notes found → before ≡ length (all_lines pieces)
-    → more ≡ refused_lines fields rest → all ≡ found ++ map (shift before) more → all ≡ refused_lines fields (front ++ rest)
-refused-behind fields front rest pieces notes before found more all whole c same are counted is behind =
-    behind
-    ∙ ap (λ ls. ls ++ map (shift before) more) (refused-in_order fields front pieces notes found c same are)
-    ∙ ap (λ ls. refused_lines fields front ++ map (shift before) ls) is
-    ∙ ap (λ n. refused_lines fields front ++ map (shift n) (refused_lines fields rest)) (counted ∙ count-lines front pieces c)
-    ∙ sym (refused-whole_lines fields front rest whole)
 
 pub numbers-behind : (before count : ℕ) (found more all : List (ℕ × LineFault)) → All (λ line. line.0 ≤ before) found → All (λ line. line.0 ≤ count) more
     → all ≡ found ++ map (shift before) more → All (λ line. line.0 ≤ before + count) all
@@ -210,17 +174,10 @@ numbers-behind before count found more all low within behind =
     (All-map (λ line. line.0 ≤ before + count) (shift before) more
     (All-weaker (λ line. line.0 ≤ count) (λ line. before + line.0 ≤ before + count) (λ line l. omega (arith, l)) more within)))
 
--- ---- the note of the one piece
-
-abbrev noted : ℕ → ℕ → List (ℕ × LineFault) → Noted
-noted index count found = record { index = index; lines = count; refused = found }
-
-pub followed-note : (fields : List Field) (input : List ℕ) (notes : List PieceRefusals) (note : PieceRefusals) → notes ≡ note ∷ [] → note.index ≡ 0 → note.lines ≡ length (lines input)
-    → note.refused ≡ refused_lines fields input → SameBag (map (note_of fields) (whole_piece input)) (map note_in notes)
-followed-note fields input notes note is first count found =
-    let same : note_in note ≡ noted 0 (length (lines input)) (refused_lines fields input) =
-    ap (λ index. noted index note.lines note.refused) first ∙ ap (λ n. noted 0 n note.refused) count ∙ ap (noted 0 (length (lines input))) found in
-    subst (λ (ns : List Noted). SameBag (map (note_of fields) (whole_piece input)) ns) (sym (ap (map note_in) is ∙ ap (λ n. n ∷ []) same)) (λ f. refl)
+-- an input is cut into the one piece that it is
+pub one-cut : (input : List ℕ) → IsCutInto input (one_piece input)
+one-cut [] = record { in_order = λ k lt. absurd (omega (arith, lt)); joined = refl; feeds = tt }
+one-cut (byte ∷ bytes) = one-piece (byte ∷ bytes)
 
 -- ---- an input as one piece
 
@@ -247,27 +204,27 @@ some-parts b false (p ∷ q ∷ ps) h = omega arith
 some-line : (b : ℕ) (bytes : List ℕ) → 0 < length (lines (b ∷ bytes))
 some-line b bytes = some-parts b (b == line_feed) (slice_split (λ x. x == line_feed) bytes) (let n = length-slice_split (λ (x : ℕ). x == line_feed) bytes in omega (arith, n))
 
--- the notes of an input as one piece: there is one where there is a line, and else none
-abbrev AreOneNote : ℕ → List (ℕ × LineFault) → List PieceRefusals → Type 0
-AreOneNote count found notes =
-    (count ≡ 0 → notes ≡ []) × (0 < count → (note : PieceRefusals) × (note.index ≡ 0) × (note.lines ≡ count) × (note.refused ≡ found) × (notes ≡ note ∷ []))
+-- ---- the notes of one piece
 
-pub one-noted : (fields : List Field) (input : List ℕ) (pieces : List IndexedPiece) (count : ℕ) (found : List (ℕ × LineFault)) (notes : List PieceRefusals) → IsCutInto input pieces
-    → count ≡ length (all_lines pieces) → found ≡ refused_lines fields input → AreOneNote count found notes → SameBag (map (note_of fields) (one_piece input)) (map note_in notes)
-one-noted fields [] pieces count found notes c counted same are =
-    let none = count-lines [] pieces c in
-    subst (λ (ns : List PieceRefusals). SameBag [] (map note_in ns)) (sym (are.0 (omega (arith, counted, none)))) (λ f. refl)
-one-noted fields (b ∷ bytes) pieces count found notes c counted same are =
-    let some = some-line b bytes in
-    let all = count-lines (b ∷ bytes) pieces c in
-    let note = are.1 (omega (arith, some, all, counted)) in
-    followed-note fields (b ∷ bytes) notes note.0 note.4 note.1 (let n = note.2 in omega (arith, n, counted, all)) (note.3 ∙ same)
+pub one-sound : (count : ℕ) (found : List (ℕ × LineFault)) (notes : List Noted) → All (λ line. line.0 ≤ count) found → notes ≡ notes_of_one count found
+    → (line_count notes ≡ count) × All IsWellNumbered notes
+one-sound zero found notes low is = (ap line_count is, subst (λ (ns : List Noted). All IsWellNumbered ns) (sym is) (All-nil IsWellNumbered))
+one-sound (suc more) found notes low is =
+    let note = note_of_one (suc more) found in (
+      ap line_count is ∙ (let sum = sum_by-cons (λ (n : Noted). n.lines) note [] in omega (arith, sum)),
+      subst (λ (ns : List Noted). All IsWellNumbered ns) (sym is) (All-cons IsWellNumbered note [] low (All-nil IsWellNumbered)),
+    )
 
-pub one-sound : (count : ℕ) (found : List (ℕ × LineFault)) (notes : List PieceRefusals) → All (λ line. line.0 ≤ count) found → AreOneNote count found notes
-    → (line_count (map note_in notes) ≡ count) × All IsWellNumbered (map note_in notes)
-one-sound zero found notes low are = no-notes notes (are.0 refl)
-one-sound (suc n) found notes low are =
-    let note = are.1 (omega arith) in
-    let well : IsWellNumbered (note_in note.0) = subst (λ ls. All (λ line. line.0 ≤ note.0.lines) ls) (sym note.3) (subst (λ m. All (λ line. line.0 ≤ m) found) (sym note.2) low) in
-    let one = one-note notes note.0 note.4 well in
-    (one.0 ∙ note.2, one.1)
+-- they stand in their order
+pub one-in_order : (count : ℕ) (found : List (ℕ × LineFault)) → in_order note_order (notes_of_one count found) ≡ notes_of_one count found
+one-in_order zero found = refl
+one-in_order (suc more) found = refl
+
+pub some-notes : (count : ℕ) (found : List (ℕ × LineFault)) → 0 < count → notes_of_one count found ≡ note_of_one count found ∷ []
+some-notes zero found some = absurd (omega (arith, some))
+some-notes (suc more) found some = refl
+
+-- those of an input
+pub one-noted : (fields : List Field) (input : List ℕ) → notes_of_one (length (lines input)) (refused_lines fields input) ≡ in_order note_order (map (note_of fields) (one_piece input))
+one-noted fields [] = refl
+one-noted fields (b ∷ bytes) = some-notes (length (lines (b ∷ bytes))) (refused_lines fields (b ∷ bytes)) (some-line b bytes)

@@ -7,14 +7,15 @@ use Rattle.semantics.specs.Columns.{Field}
 use Rattle.semantics.specs.declared.line_fault.LineFault.{LineFault}
 use Rattle.semantics.specs.Records.{valid_records, refused_lines}
 use Rattle.semantics.specs.Lines.{lines}
-use Rattle.semantics.specs.Syntax.{TreeForm}
 use Rattle.semantics.specs.Conditions.{kept_records}
 use Rattle.tables_groups.specs.Bags.{SameBag}
 use Rattle.tables.specs.declared.piece_refusals.PieceRefusals.{PieceRefusals}
 use Rattle.tables.specs.Notes.{IsWellNumbered, Noted, line_count, note_in, note_of}
 use Rattle.tables.specs.Pieces.{IndexedPiece, all_lines, records_of, refused_lines_within}
-use Rattle.tables.proofs.Merging.{counted-append, lines-append, notes-append, one-note, records-append, refused-append}
+use Rattle.tables.specs.Laws.{lines-append, records-append, refused-append}
+use Rattle.tables.proofs.Merging.{counted-append, notes-append, one-note}
 use Rattle.tables.proofs.Reading.{length-valid_of, length-kept}
+use Rattle.query_plan.specs.Planned.{PlannedQuery}
 
 -- ---- before the first line of the piece
 
@@ -29,11 +30,11 @@ few-records fields (p ∷ pieces) =
     omega (arith, more, here, a, b)
 
 -- fewer than 2^63 lines have fewer than 2^63 records that are kept
-pub few-kept : (fields : List Field) (q : TreeForm) (pieces : List IndexedPiece) (lines : ℕ) → lines ≡ length (all_lines pieces) → lines < 2 ^ 63
-    → length (kept_records fields q (records_of fields pieces)) < 2 ^ 63
-few-kept fields q pieces lines e few =
-    let kept_records = length-kept fields q (records_of fields pieces) in
-    let records = few-records fields pieces in
+pub few-kept : (plan : PlannedQuery) (pieces : List IndexedPiece) (lines : ℕ) → lines ≡ length (all_lines pieces) → lines < 2 ^ 63
+    → length (kept_records plan.fields plan.query (records_of plan.fields pieces)) < 2 ^ 63
+few-kept plan pieces lines e few =
+    let kept_records = length-kept plan (records_of plan.fields pieces) in
+    let records = few-records plan.fields pieces in
     omega (arith, kept_records, records, e, few)
 
 -- ---- the piece behind the others

@@ -1,13 +1,14 @@
 mod Examples
 pub mod SetTables
 pub mod Walking
-pub mod Telling
 pub mod Once
 pub mod Orders
 pub mod Reading
 pub mod Narrow
 pub mod EitherWay
 pub mod Merging
+pub mod Standing
+pub mod Totals
 pub mod Finding
 pub mod Members
 pub mod Columns
@@ -15,15 +16,15 @@ pub mod Fitting
 pub mod OneSound
 pub mod Sound
 pub mod Cutting
-pub mod SameBags
 pub mod Numbered
 pub mod Shapes
 pub mod Bags
 pub mod Bound
 pub mod Taken
 pub mod Following
+pub mod OnePiece
 pub mod InOrder
+pub mod NotesInOrder
 pub mod Runs
 pub mod Growing
-pub mod Denotations
 pub mod Sharing

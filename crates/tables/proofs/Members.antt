@@ -4,8 +4,6 @@ use Rattle.std.proofs.lemmas.Bool.{ne_eqb}
 use Rattle.std.proofs.lemmas.Bool.Decides.{nat_tests}
 use Rattle.std.proofs.lemmas.List.{map-append}
 use Rattle.std.specs.List.{enumerate_from, flat_map}
-use Rattle.semantics.specs.Columns.{Field}
-use Rattle.semantics.specs.Syntax.{TreeForm}
 use Rattle.semantics.specs.Aggregates.{AggregateFunction}
 use Rattle.semantics.specs.Found.{aggregate_functions, group_summary, Found, found_group, query_found}
 use Rattle.semantics.specs.Sets.{sets_of}
@@ -13,9 +11,10 @@ use Rattle.semantics.specs.Conditions.{kept_records}
 use Rattle.semantics.specs.Groups.{Row, Key, keys, members}
 use Rattle.tables_groups.specs.GroupSummaries.{group_summaries}
 use Rattle.tables_groups.specs.Bags.{SameBag, weigh}
+use Rattle.tables_groups.proofs.Bags.{weigh-append, weigh-flat_map, weigh-map}
 use Rattle.tables.specs.Members.{HasEachRecordOnce, members_of_row, rows_of_set}
 use Rattle.tables.proofs.Finding.{set_groups}
-use Rattle.tables.proofs.Bags.{weigh-append, weigh-flat_map, weigh-map}
+use Rattle.query_plan.specs.Planned.{PlannedQuery}
 
 weigh-filter : {A : Type 0} (f : A → ℕ) (test : A → Bool) (xs : List A) → weigh f (filter test xs) ≡ weigh (λ x. cond (test x) (f x) 0) xs
 weigh-filter f test [] = refl
@@ -105,12 +104,12 @@ pub record AreParted : Type 0 where
   pub members : (set : List ℕ) (rows : List Row) → SameBag (flat_map (λ key. members set key rows) (keys set rows)) rows
   pub lines : (set : List ℕ) (fs : List AggregateFunction) (rows : List Row) → weigh (λ group. group.lines) (group_summaries set fs rows) ≡ length rows
 
-pub each-record-once : AreParted → (fields : List Field) (q : TreeForm) (rows : List Row) (given : List Found) → SameBag given (query_found fields q rows)
-    → HasEachRecordOnce fields q given rows
-each-record-once parted fields q rows given same =
-    let all = kept_records fields q rows in
-    let fs = aggregate_functions fields q in
-    let sets = sets_of fields q in
+pub each-record-once : AreParted → (plan : PlannedQuery) (rows : List Row) (given : List Found) → SameBag given (query_found plan.fields plan.query rows)
+    → HasEachRecordOnce plan given rows
+each-record-once parted plan rows given same =
+    let all = kept_records plan.fields plan.query rows in
+    let fs = aggregate_functions plan.fields plan.query in
+    let sets = sets_of plan.fields plan.query in
     let of_rows : (f : Found → ℕ) (index : ℕ) → index < length sets
     → weigh f (rows_of_set index given) ≡ weigh (λ key. f (index, group_summary fs key (members (set_at sets index) key all))) (keys (set_at sets index) all)
     = λ f index few. weigh-filter f (λ row. row.0 == index) given ∙ same (of_set index f) ∙ weight-at index f fs all 0 sets index few (omega arith) in
@@ -120,8 +119,8 @@ each-record-once parted fields q rows given same =
           ∙ sym (weigh-map (λ group. group.lines) (λ key. group_summary fs key (members (set_at sets index) key all)) (keys (set_at sets index) all))
           ∙ parted.lines (set_at sets index) fs all;
       members = λ index few weight.
-          weigh-flat_map weight (members_of_row fields q rows) (rows_of_set index given)
-          ∙ of_rows (λ row. weigh weight (members_of_row fields q rows row)) index few
+          weigh-flat_map weight (members_of_row plan rows) (rows_of_set index given)
+          ∙ of_rows (λ row. weigh weight (members_of_row plan rows row)) index few
           ∙ sym (weigh-flat_map weight (λ key. members (set_at sets index) key all) (keys (set_at sets index) all))
           ∙ parted.members (set_at sets index) all weight;
     }

@@ -1,29 +1,17 @@
 -- Results over some pieces and over others, put together.
-use Rattle.std.proofs.Common.{◌≡◌, ◌+◌, ℕ, List, [], ◌∷◌, ◌++◌, length, map, sym, ap, subst, ◌∙◌, arith, length-append}
-use Rattle.std.proofs.lemmas.Grind.{flat_map-append}
+use Rattle.std.proofs.Common.{◌≡◌, ◌+◌, ℕ, List, [], ◌∷◌, ◌++◌, map, sym, ap, subst, ◌∙◌, arith}
 use Rattle.std.proofs.lemmas.List.{map-append}
 use Rattle.std.proofs.lemmas.List.Sums.{sum_by-append, sum_by-cons}
 use Rattle.std.proofs.lemmas.List.Elements.{All-cons}
 use Rattle.std.specs.List.{All}
 use Rattle.semantics.specs.Columns.{Field}
-use Rattle.semantics.specs.Records.{valid_records, refused_lines}
-use Rattle.semantics.specs.Lines.{lines}
 use Rattle.tables_groups.specs.Bags.{SameBag}
+use Rattle.tables_groups.proofs.Bags.{bag-append}
 use Rattle.tables.specs.Notes.{IsWellNumbered, Noted, line_count, note_in, note_of}
 use Rattle.tables.specs.declared.piece_refusals.PieceRefusals.{PieceRefusals}
-use Rattle.tables.specs.Pieces.{IndexedPiece, all_lines, records_of, refused_lines_within}
-use Rattle.tables.proofs.Bags.{bag-append}
+use Rattle.tables.specs.Pieces.{IndexedPiece}
 
--- ---- the pieces of both
-
-pub records-append : (fields : List Field) (pieces more : List IndexedPiece) → records_of fields (pieces ++ more) ≡ records_of fields pieces ++ records_of fields more
-records-append fields pieces more = flat_map-append (λ piece. valid_records fields piece.bytes) pieces more
-
-pub lines-append : (pieces more : List IndexedPiece) → length (all_lines (pieces ++ more)) ≡ length (all_lines pieces) + length (all_lines more)
-lines-append pieces more = ap length (flat_map-append (λ piece. lines piece.bytes) pieces more) ∙ length-append (all_lines pieces) (all_lines more)
-
-pub refused-append : (fields : List Field) (pieces more : List IndexedPiece) → length (refused_lines_within fields (pieces ++ more)) ≡ length (refused_lines_within fields pieces) + length (refused_lines_within fields more)
-refused-append fields pieces more = ap length (flat_map-append (λ piece. refused_lines fields piece.bytes) pieces more) ∙ length-append (refused_lines_within fields pieces) (refused_lines_within fields more)
+-- ---- the notes of both
 
 pub notes-append : (fields : List Field) (pieces more : List IndexedPiece) (ns ms : List Noted) → SameBag (map (note_of fields) pieces) ns → SameBag (map (note_of fields) more) ms
     → SameBag (map (note_of fields) (pieces ++ more)) (ns ++ ms)

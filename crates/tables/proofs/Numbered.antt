@@ -12,13 +12,16 @@ use Rattle.semantics.specs.declared.line_fault.LineFault.{LineFault}
 use Rattle.semantics.specs.Records.{refused_lines, decode_line}
 use Rattle.semantics.specs.Lines.{lines}
 use Rattle.tables_groups.specs.Bags.{SameBag, weigh}
-use Rattle.tables.specs.Notes.{AreLinesOf, Noted, note_of, refused_lines_from}
+use Rattle.tables_groups.proofs.Bags.{bag-map, weigh-flat_map}
+use Rattle.semantics.specs.Order.{in_order}
+use Rattle.tables.specs.Inside.Notes.{AreLinesOf}
+use Rattle.tables.specs.Notes.{Noted, note_of, note_order, refused_lines_from}
 use Rattle.tables.specs.Pieces.{AreInOrder, AreNumbered, HaveOwnIndexes, IndexedPiece, all_lines, pieces_before, refused_lines_numbered}
-use Rattle.tables.proofs.Bags.{bag-map, weigh-flat_map, weigh-same}
+use Rattle.tables.proofs.Bags.{weigh-same}
 use Rattle.tables.proofs.Cutting.{numbered-lines, refused_from}
-use Rattle.tables.proofs.Orders.{Rises, rises-from_sorted, rises-same, strict-from_rises}
+use Rattle.tables.proofs.NotesInOrder.{rising-in_order, rising-same}
+use Rattle.tables.proofs.Orders.{Rises, distinct-from_rises, rises-from_sorted, rises-ordered, strict-from_rises}
 use Rattle.tables.proofs.Reading.{numbered_fault}
-use Rattle.tables.proofs.Telling.{note-Decides, same_note}
 
 abbrev index_of : IndexedPiece → ℕ
 index_of piece = piece.index
@@ -94,15 +97,32 @@ notes-rise fields (p ∷ more) h = (note_above fields p more h.0, notes-rise fie
 lines-rising : (fields : List Field) (pieces : List IndexedPiece) (notes : List Noted) (lines : List (ℕ × LineFault)) → Rises index_of pieces
     → SameBag (map (note_of fields) pieces) notes → AreLinesOf notes lines → lines ≡ refused_lines_from 0 (map (note_of fields) pieces)
 lines-rising fields pieces notes lines rise same are =
-    are.numbered
-    ∙ ap (refused_lines_from 0) (sym (rises-same (λ (note : Noted). note.index) same_note note-Decides (map (note_of fields) pieces) are.ordered (notes-rise fields pieces rise) (λ f. same f ∙ are.same f) are.ascending))
+    let of_pieces = map (note_of fields) pieces in
+    let up = notes-rise fields pieces rise in
+    let bag : SameBag of_pieces are.ordered = λ f. same f ∙ are.same f in
+    let ordered = rises-ordered (λ (note : Noted). note.index) of_pieces are.ordered (distinct-from_rises (λ (note : Noted). note.index) of_pieces up) bag are.ascending in
+    are.numbered ∙ ap (refused_lines_from 0) (sym (rising-same of_pieces are.ordered up ordered bag))
+
+rising-pieces : (pieces : List IndexedPiece) → AreInOrder pieces → Rises index_of pieces
+rising-pieces pieces o = rises-from_sorted index_of pieces (sorted_from_strictly_increasing (map index_of pieces) o)
 
 pub lines-in_order : (fields : List Field) (pieces : List IndexedPiece) (notes : List Noted) (lines : List (ℕ × LineFault)) → AreInOrder pieces
     → SameBag (map (note_of fields) pieces) notes → AreLinesOf notes lines → lines ≡ refused_lines_from 0 (map (note_of fields) pieces)
-lines-in_order fields pieces notes lines o = lines-rising fields pieces notes lines (rises-from_sorted index_of pieces (sorted_from_strictly_increasing (map index_of pieces) o))
+lines-in_order fields pieces notes lines o = lines-rising fields pieces notes lines (rising-pieces pieces o)
+
+-- the notes of pieces that stand in their order
+pub notes-in_order : (fields : List Field) (pieces : List IndexedPiece) → AreInOrder pieces → in_order note_order (map (note_of fields) pieces) ≡ map (note_of fields) pieces
+notes-in_order fields pieces o = rising-in_order (map (note_of fields) pieces) (notes-rise fields pieces (rising-pieces pieces o))
+
+-- none of their indexes stands twice
+pub own-in_order : (fields : List Field) (pieces : List IndexedPiece) → AreInOrder pieces
+    → IsDistinct nat_eq (map (λ (note : Noted). note.index) (in_order note_order (map (note_of fields) pieces)))
+own-in_order fields pieces o =
+    subst (λ (ns : List Noted). IsDistinct nat_eq (map (λ (note : Noted). note.index) ns)) (sym (notes-in_order fields pieces o))
+    (distinct-from_rises (λ (note : Noted). note.index) (map (note_of fields) pieces) (notes-rise fields pieces (rising-pieces pieces o)))
 
 pub numbered-in_order : (fields : List Field) (pieces : List IndexedPiece) → AreInOrder pieces → refused_lines_from 0 (map (note_of fields) pieces) ≡ refused_lines_numbered fields pieces
-numbered-in_order fields pieces o = numbered-rising fields pieces (rises-from_sorted index_of pieces (sorted_from_strictly_increasing (map index_of pieces) o))
+numbered-in_order fields pieces o = numbered-rising fields pieces (rising-pieces pieces o)
 
 -- ---- pieces of which no index stands twice, put in order
 

@@ -13,8 +13,8 @@ use Rattle.semantics.specs.Names.{kind_at}
 use Rattle.semantics.specs.declared.function.ColumnFunction.{ColumnFunction}
 use Rattle.semantics.specs.declared.function.ColumnFunction.TheVariants as function
 use Rattle.tables_groups.specs.Fitting.{IsHeld}
-use Rattle.tables_groups.specs.Inside.Accumulator.{AccumulatorState, nothing, counted, summed, averaged, collected, lowest, highest}
-use Rattle.tables_groups.specs.Inside.Typed.{AreStatesOf, IsKeyOf, IsStateBy, IsStateCounted, IsStateOver}
+use Rattle.tables_groups.specs.Accumulator.{AccumulatorState, nothing, counted, summed, averaged, collected, lowest, highest}
+use Rattle.tables_groups.specs.Typed.{AreStatesOf, IsKeyOf, IsStateBy, IsStateCounted, IsStateOver}
 use Rattle.tables.specs.Sound.{IsSoundUnder}
 use Rattle.tables.specs.States.{PartialState}
 

@@ -1,7 +1,7 @@
 -- The lines of a piece as far as they have been read.
 use Rattle.std.proofs.Common.{◌≡◌, ◌==◌, ◌+◌, ◌<◌, ◌≤◌, ℕ, suc, Bool, true, false, cond, List, [], ◌∷◌, ◌++◌, length, map, filter, filter_map, option_map, Option, Some, None, Result, Ok, Err, sym, ap, subst, ◌∙◌, arith, append-nil, append_assoc, length-append}
 use Rattle.std.proofs.lemmas.List.{map-append, length-map}
-use Rattle.std.proofs.lemmas.List.Elements.{All-from_recursion, filter-append, filter_map-append}
+use Rattle.std.proofs.lemmas.List.Elements.{All-from_recursion, filter_map-append}
 use Rattle.std.proofs.lemmas.List.FromFn.{length-enumerate_from}
 use Rattle.std.proofs.lemmas.List.Splits.{length-slice_split}
 use Rattle.std.specs.List.{All, AllByRecursion, cons_option, enumerate_from, onto_first, slice_split}
@@ -10,15 +10,20 @@ use Rattle.semantics.specs.Values.{Datum}
 use Rattle.semantics.specs.Columns.{Field}
 use Rattle.semantics.specs.declared.line_fault.LineFault.{LineFault}
 use Rattle.semantics.specs.Lines.{line_feed, lines, without_empty_last}
-use Rattle.semantics.specs.Records.{decode_line}
-use Rattle.semantics.specs.Syntax.{TreeForm}
+use Rattle.semantics.specs.Records.{decode_line, valid_records}
 use Rattle.semantics.specs.Found.{aggregate_functions}
 use Rattle.semantics.specs.Sets.{grouping_places}
 use Rattle.semantics.specs.Conditions.{is_kept, kept_records}
 use Rattle.semantics.specs.Groups.{Row}
-use Rattle.tables_groups.specs.Inside.Table.{Contents, IsTableOf}
+use Rattle.tables_groups.specs.Table.{Contents, IsTableOf, both_tables, table_of}
+use Rattle.tables_groups.proofs.GroupsLaw.{table-is}
+use Rattle.tables_groups.proofs.Joint.{table_of-append}
+use Rattle.tables.specs.Laws.{kept-append}
+use Rattle.tables.specs.Partials.{of_pieces, whole_piece}
 use Rattle.tables.specs.declared.folding.Folding.{Folding}
-use Rattle.tables.specs.Folding.{HasRead, valid_records_of, refused_lines_of}
+use Rattle.tables.specs.Inside.Folding.{HasRead}
+use Rattle.tables.specs.Folding.{valid_records_of, refused_lines_of}
+use Rattle.query_plan.specs.Planned.{PlannedQuery}
 
 -- ---- an input has at most as many lines as bytes
 
@@ -103,11 +108,8 @@ filter-le : {A : Type 0} (p : A → Bool) (xs : List A) → length (filter p xs)
 filter-le p [] = omega arith
 filter-le p (x ∷ xs) = one-le (p x) x (filter p xs) (length xs) (filter-le p xs)
 
-pub length-kept : (fields : List Field) (q : TreeForm) (rows : List (List Datum)) → length (kept_records fields q rows) ≤ length rows
-length-kept fields q rows = filter-le (is_kept fields q) rows
-
-pub kept-append : (fields : List Field) (q : TreeForm) (rows more : List (List Datum)) → kept_records fields q (rows ++ more) ≡ kept_records fields q rows ++ kept_records fields q more
-kept-append fields q rows more = filter-append (is_kept fields q) rows more
+pub length-kept : (plan : PlannedQuery) (rows : List (List Datum)) → length (kept_records plan.fields plan.query rows) ≤ length rows
+length-kept plan rows = filter-le (is_kept plan.fields plan.query) rows
 
 pub length-refused_of : (fields : List Field) (ls : List (List ℕ)) → length (refused_lines_of fields ls) ≤ length ls
 length-refused_of fields ls =
@@ -132,60 +134,75 @@ refused-numbers fields ls = All-from_recursion (λ line. line.0 ≤ length ls) (
     (at-most (length ls) (refused_lines_of fields ls) (numbers-below (length ls + 1) 1 (map (decode_line fields) ls) (let long = length-map ls (decode_line fields) in omega (arith, long))))
 
 -- behind these records no line has been read
-pub nothing-read : (fields : List Field) (q : TreeForm) (before : List Row) (table : Contents) (folding : Folding)
-    → IsTableOf (grouping_places fields q) (aggregate_functions fields q) table (kept_records fields q before)
-    → folding.table ≡ table → folding.lines ≡ 0 → folding.refused ≡ 0 → folding.refusals ≡ [] → HasRead fields q before folding []
-nothing-read fields q before table folding held same none nobody nothing = record {
-  table = subst (λ (t : Contents). IsTableOf (grouping_places fields q) (aggregate_functions fields q) t (kept_records fields q (before ++ []))) (sym same)
-      (subst (λ (rows : List Row). IsTableOf (grouping_places fields q) (aggregate_functions fields q) table (kept_records fields q rows)) (sym (append-nil before)) held);
+pub nothing-read : (plan : PlannedQuery) (before : List Row) (table : Contents) (folding : Folding)
+    → IsTableOf (grouping_places plan.fields plan.query) (aggregate_functions plan.fields plan.query) table (kept_records plan.fields plan.query before)
+    → folding.table ≡ table → folding.lines ≡ 0 → folding.refused ≡ 0 → folding.refusals ≡ [] → HasRead plan before folding []
+nothing-read plan before table folding held same none nobody nothing = record {
+  table = subst (λ (t : Contents). IsTableOf (grouping_places plan.fields plan.query) (aggregate_functions plan.fields plan.query) t (kept_records plan.fields plan.query (before ++ []))) (sym same)
+      (subst (λ (rows : List Row). IsTableOf (grouping_places plan.fields plan.query) (aggregate_functions plan.fields plan.query) table (kept_records plan.fields plan.query rows)) (sym (append-nil before)) held);
   lines = none;
   count = nobody;
   refused = nothing;
 }
 
 -- some lines have been read, and with those that are left they are all
-pub record HasReadSome (fields : List Field) (q : TreeForm) (before : List Row) (folding : Folding) (left all : List (List ℕ)) : Type 0 where
+pub record HasReadSome (plan : PlannedQuery) (before : List Row) (folding : Folding) (left all : List (List ℕ)) : Type 0 where
   pub seen : List (List ℕ)
-  pub has_read : HasRead fields q before folding seen
+  pub has_read : HasRead plan before folding seen
   pub is : seen ++ left ≡ all
 
 -- ---- a line that has been read
 
-pub read-ok : (fields : List Field) (q : TreeForm) (before : List Row) (old new : Folding) (seen : List (List ℕ)) (line : List ℕ) (row : List Datum) → decode_line fields line ≡ Ok row → HasRead fields q before old seen
-    → ((rows : List (List Datum)) → IsTableOf (grouping_places fields q) (aggregate_functions fields q) old.table (kept_records fields q rows) → IsTableOf (grouping_places fields q) (aggregate_functions fields q) new.table (kept_records fields q (rows ++ row ∷ [])))
+pub read-ok : (plan : PlannedQuery) (before : List Row) (old new : Folding) (seen : List (List ℕ)) (line : List ℕ) (row : List Datum) → decode_line plan.fields line ≡ Ok row → HasRead plan before old seen
+    → ((rows : List (List Datum)) → IsTableOf (grouping_places plan.fields plan.query) (aggregate_functions plan.fields plan.query) old.table (kept_records plan.fields plan.query rows) → IsTableOf (grouping_places plan.fields plan.query) (aggregate_functions plan.fields plan.query) new.table (kept_records plan.fields plan.query (rows ++ row ∷ [])))
     → new.lines ≡ old.lines → new.refused ≡ old.refused → new.refusals ≡ old.refusals
-    → HasRead fields q before (record { table = new.table; lines = new.lines + 1; refused = new.refused; refusals = new.refusals; marks = new.marks }) (seen ++ line ∷ [])
-read-ok fields q before old new seen line row e h added same count stay = record {
-  table = subst (λ (rows : List (List Datum)). IsTableOf (grouping_places fields q) (aggregate_functions fields q) new.table (kept_records fields q rows))
-      (append_assoc before (valid_records_of fields seen) (row ∷ []) ∙ ap (λ rows. before ++ rows) (sym (valid-ok fields seen line row e)))
-      (added (before ++ valid_records_of fields seen) h.table);
+    → HasRead plan before (record { table = new.table; lines = new.lines + 1; refused = new.refused; refusals = new.refusals; marks = new.marks }) (seen ++ line ∷ [])
+read-ok plan before old new seen line row e h added same count stay = record {
+  table = subst (λ (rows : List (List Datum)). IsTableOf (grouping_places plan.fields plan.query) (aggregate_functions plan.fields plan.query) new.table (kept_records plan.fields plan.query rows))
+      (append_assoc before (valid_records_of plan.fields seen) (row ∷ []) ∙ ap (λ rows. before ++ rows) (sym (valid-ok plan.fields seen line row e)))
+      (added (before ++ valid_records_of plan.fields seen) h.table);
   lines = (let a = h.lines in let b = length-append seen (line ∷ []) in omega (arith, same, a, b));
-  count = count ∙ h.count ∙ ap length (sym (refused-ok fields seen line row e));
-  refused = stay ∙ h.refused ∙ sym (refused-ok fields seen line row e);
+  count = count ∙ h.count ∙ ap length (sym (refused-ok plan.fields seen line row e));
+  refused = stay ∙ h.refused ∙ sym (refused-ok plan.fields seen line row e);
 }
 
-pub read-err : (fields : List Field) (q : TreeForm) (before : List Row) (old new : Folding) (seen : List (List ℕ)) (line : List ℕ) (fault : LineFault) → decode_line fields line ≡ Err fault → HasRead fields q before old seen
+pub read-err : (plan : PlannedQuery) (before : List Row) (old new : Folding) (seen : List (List ℕ)) (line : List ℕ) (fault : LineFault) → decode_line plan.fields line ≡ Err fault → HasRead plan before old seen
     → new.table ≡ old.table → new.lines ≡ old.lines → new.refused ≡ old.refused + 1 → new.refusals ≡ old.refusals ++ (old.lines + 1, fault) ∷ []
-    → HasRead fields q before (record { table = new.table; lines = new.lines + 1; refused = new.refused; refusals = new.refusals; marks = new.marks }) (seen ++ line ∷ [])
-read-err fields q before old new seen line fault e h stay same one more = record {
-  table = subst (λ (t : Contents). IsTableOf (grouping_places fields q) (aggregate_functions fields q) t (kept_records fields q (before ++ valid_records_of fields (seen ++ line ∷ [])))) (sym stay)
-      (subst (λ (rows : List (List Datum)). IsTableOf (grouping_places fields q) (aggregate_functions fields q) old.table (kept_records fields q (before ++ rows))) (sym (valid-err fields seen line fault e)) h.table);
+    → HasRead plan before (record { table = new.table; lines = new.lines + 1; refused = new.refused; refusals = new.refusals; marks = new.marks }) (seen ++ line ∷ [])
+read-err plan before old new seen line fault e h stay same one more = record {
+  table = subst (λ (t : Contents). IsTableOf (grouping_places plan.fields plan.query) (aggregate_functions plan.fields plan.query) t (kept_records plan.fields plan.query (before ++ valid_records_of plan.fields (seen ++ line ∷ [])))) (sym stay)
+      (subst (λ (rows : List (List Datum)). IsTableOf (grouping_places plan.fields plan.query) (aggregate_functions plan.fields plan.query) old.table (kept_records plan.fields plan.query (before ++ rows))) (sym (valid-err plan.fields seen line fault e)) h.table);
   lines = (let a = h.lines in let b = length-append seen (line ∷ []) in omega (arith, same, a, b));
-  count = (let a = h.count in let b = ap length (refused-err fields seen line fault e) in let d = length-append (refused_lines_of fields seen) ((length seen + 1, fault) ∷ []) in omega (arith, one, a, b, d));
-  refused = more ∙ ap (λ rs. rs ++ (old.lines + 1, fault) ∷ []) h.refused ∙ ap (λ n. refused_lines_of fields seen ++ (n + 1, fault) ∷ []) h.lines ∙ sym (refused-err fields seen line fault e);
+  count = (let a = h.count in let b = ap length (refused-err plan.fields seen line fault e) in let d = length-append (refused_lines_of plan.fields seen) ((length seen + 1, fault) ∷ []) in omega (arith, one, a, b, d));
+  refused = more ∙ ap (λ rs. rs ++ (old.lines + 1, fault) ∷ []) h.refused ∙ ap (λ n. refused_lines_of plan.fields seen ++ (n + 1, fault) ∷ []) h.lines ∙ sym (refused-err plan.fields seen line fault e);
 }
 
 -- ---- records behind those of earlier pieces
 
 -- the records that are kept, of earlier ones and of these lines, are no more than the earlier ones and the lines
-pub length-kept_behind : (fields : List Field) (q : TreeForm) (before : List Row) (ls : List (List ℕ)) → length (kept_records fields q (before ++ valid_records_of fields ls)) ≤ length before + length ls
-length-kept_behind fields q before ls =
-    let few = length-kept fields q (before ++ valid_records_of fields ls) in
-    let both = length-append before (valid_records_of fields ls) in
-    let valid = length-valid_of fields ls in
+pub length-kept_behind : (plan : PlannedQuery) (before : List Row) (ls : List (List ℕ)) → length (kept_records plan.fields plan.query (before ++ valid_records_of plan.fields ls)) ≤ length before + length ls
+length-kept_behind plan before ls =
+    let few = length-kept plan (before ++ valid_records_of plan.fields ls) in
+    let both = length-append before (valid_records_of plan.fields ls) in
+    let valid = length-valid_of plan.fields ls in
     omega (arith, few, both, valid)
 
 -- what is noted of lines that have been read
 pub well-numbered : (fields : List Field) (n : ℕ) (refused : List (ℕ × LineFault)) (ls : List (List ℕ)) → n ≡ length ls → refused ≡ refused_lines_of fields ls → All (λ line. line.0 ≤ n) refused
 well-numbered fields n refused ls e f =
     subst (λ (rs : List (ℕ × LineFault)). All (λ line. line.0 ≤ n) rs) (sym f) (subst (λ m. All (λ line. line.0 ≤ m) (refused_lines_of fields ls)) (sym e) (refused-numbers fields ls))
+
+-- what is read onto a table is put together with it
+pub read-both : (plan : PlannedQuery) (table : Contents) (before : List Row) (folding : Folding) (bytes : List ℕ)
+    → IsTableOf (grouping_places plan.fields plan.query) (aggregate_functions plan.fields plan.query) table (kept_records plan.fields plan.query before)
+    → HasRead plan before folding (lines bytes) → folding.table ≡ both_tables table (of_pieces plan (whole_piece bytes)).table
+read-both plan table before folding bytes is read =
+    let grouping = grouping_places plan.fields plan.query in
+    let fs = aggregate_functions plan.fields plan.query in
+    let valid = valid_records plan.fields bytes in
+    let first = kept_records plan.fields plan.query before in
+    let second = kept_records plan.fields plan.query valid in
+    table-is grouping fs folding.table (kept_records plan.fields plan.query (before ++ valid)) read.table
+    ∙ ap (table_of grouping fs) (kept-append plan before valid)
+    ∙ table_of-append grouping fs first second
+    ∙ (λ i. both_tables (sym (table-is grouping fs table first is) i) (table_of grouping fs (kept_records plan.fields plan.query (sym (append-nil valid) i))))

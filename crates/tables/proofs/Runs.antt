@@ -6,7 +6,7 @@ use Rattle.std.proofs.lemmas.List.Elements.{All-head}
 use Rattle.semantics.specs.declared.line_fault.LineFault.{LineFault}
 use Rattle.semantics.specs.declared.line_fault.LineFault.TheVariants.{TooLong}
 use Rattle.tables.specs.declared.refusals.Run.{Run}
-use Rattle.tables.specs.Refusals.{lines_of_run, lines_of_runs, neighbours}
+use Rattle.tables.specs.Inside.Refusals.{lines_of_run, lines_of_runs, neighbours}
 
 abbrev shift : ℕ → ℕ × LineFault → ℕ × LineFault
 shift n line = (n + line.0, line.1)

@@ -8,8 +8,6 @@ use Rattle.std.specs.List.{AllByRecursion, Any, list_any}
 use Rattle.std.specs.List.Sorted.{IsPermutation}
 use Rattle.std.specs.Option.{option_eq}
 use Rattle.std.specs.Result.{result_ok}
-use Rattle.semantics.specs.Columns.{Field}
-use Rattle.semantics.specs.Syntax.{TreeForm}
 use Rattle.tables_groups.specs.Functions.{aggregates_of}
 use Rattle.semantics.specs.Names.{places_of}
 use Rattle.query_resolve.specs.Resolution.{contents}
@@ -17,14 +15,17 @@ use Rattle.semantics.specs.Sets.{grouping_places, sets_of}
 use Rattle.query_resolve.proofs.DistinctSets.{names_kept, set_of_names, sets_by_names}
 use Rattle.tables_groups.specs.declared.group.Group.{Group}
 use Rattle.tables_groups.specs.Rolled.{AreAmong}
-use Rattle.tables_groups.specs.Inside.Table.{AreGroupsOfTable, Contents, IsRollOf, KeepsCount}
-use Rattle.tables_groups.specs.Inside.Typed.{HaveTypesOfTable, KeepsTypes}
+use Rattle.tables_groups.specs.Table.{AreGroupsOfTable, Contents, IsRollOf, KeepsCount}
+use Rattle.tables_groups.specs.Typed.{HaveTypesOfTable, KeepsTypes}
 use Rattle.query_resolve.specs.declared.function.FilteredFunction.{FilteredFunction}
 use Rattle.tables.specs.declared.rolling.Roll.{Roll}
 use Rattle.tables.specs.declared.rolling.SetTable.{SetTable}
-use Rattle.tables.specs.Properties.{AreGroupsWith, HasProperty, Property, of_at_most, of_records, of_types}
-use Rattle.tables.specs.SetTables.{AreRolled, HasFiner, ListedSet, NoneHasIndex, StandsAtIndex, listed_roll, listed_table, sets_of_rolls, sets_of_tables}
+use Rattle.tables.specs.Inside.Properties.{AreGroupsWith}
+use Rattle.tables.specs.Properties.{HasProperty, Property, of_at_most, of_records, of_types}
+use Rattle.tables.specs.SetTables.{AreRolled}
+use Rattle.tables.specs.Inside.SetTables.{HasFiner, ListedSet, NoneHasIndex, StandsAtIndex, listed_roll, listed_table, sets_of_rolls, sets_of_tables}
 use Rattle.tables.proofs.Bags.{all-everywhere, all-filter, all-map}
+use Rattle.query_plan.specs.Planned.{PlannedQuery}
 
 -- ---- columns that are among others
 
@@ -50,14 +51,14 @@ pub among-self : (set : List ℕ) → AreAmong set set
 among-self set = rest-among [] set
 
 -- each grouping set is of grouping columns
-pub sets-among : (fields : List Field) (q : TreeForm) → All (λ set. AreAmong set (grouping_places fields q)) (sets_of fields q)
-sets-among fields q =
-    let grouping = grouping_places fields q in
-    All-from_recursion (λ set. AreAmong set grouping) (sets_of fields q)
-    (subst (AllByRecursion (λ set. AreAmong set grouping)) (sym (sets_by_names fields q))
-    (all-map (λ set. AreAmong set grouping) (set_of_names fields q) (names_kept fields q)
-    (all-everywhere (λ names. AreAmong (set_of_names fields q names) grouping) (names_kept fields q)
-    (λ names. all-filter (λ place. list_any (λ p. p == place) grouping ≡ true) (λ c. list_any (λ p. p == c) (places_of fields names)) grouping (among-self grouping)))))
+pub sets-among : (plan : PlannedQuery) → All (λ set. AreAmong set (grouping_places plan.fields plan.query)) (sets_of plan.fields plan.query)
+sets-among plan =
+    let grouping = grouping_places plan.fields plan.query in
+    All-from_recursion (λ set. AreAmong set grouping) (sets_of plan.fields plan.query)
+    (subst (AllByRecursion (λ set. AreAmong set grouping)) (sym (sets_by_names plan.fields plan.query))
+    (all-map (λ set. AreAmong set grouping) (set_of_names plan.fields plan.query) (names_kept plan.fields plan.query)
+    (all-everywhere (λ names. AreAmong (set_of_names plan.fields plan.query names) grouping) (names_kept plan.fields plan.query)
+    (λ names. all-filter (λ place. list_any (λ p. p == place) grouping ≡ true) (λ c. list_any (λ p. p == c) (places_of plan.fields names)) grouping (among-self grouping)))))
 
 -- ---- sets of the code, and their columns
 

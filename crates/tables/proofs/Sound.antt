@@ -1,5 +1,5 @@
 -- How many records the groups of a partial result have, and of which types they are.
-use Rattle.std.proofs.Common.{◌≡◌, ◌+◌, ◌-◌, ◌<◌, ◌≤◌, ◌^◌, ℕ, List, [], ◌∷◌, length, map, Option, IfSome, inl, inr, refl, sym, ap, subst, ◌∙◌, arith}
+use Rattle.std.proofs.Common.{◌≡◌, ◌+◌, ◌-◌, ◌<◌, ◌≤◌, ◌^◌, ℕ, List, [], ◌∷◌, length, map, Option, IfSome, refl, sym, ap, subst, ◌∙◌, arith}
 use Rattle.std.proofs.lemmas.List.{nil_from_length}
 use Rattle.std.specs.FinMap as fin
 use Rattle.query_resolve.specs.declared.function.FilteredFunction.{FilteredFunction}
@@ -9,38 +9,37 @@ use Rattle.semantics.specs.Columns.{Field}
 use Rattle.semantics.specs.Found.{aggregate_functions}
 use Rattle.semantics.specs.Groups.{Key, Row, key_order}
 use Rattle.semantics.specs.Sets.{grouping_places}
-use Rattle.semantics.specs.Syntax.{TreeForm}
 use Rattle.tables_groups.specs.Bags.{weigh}
-use Rattle.tables_groups.specs.Inside.Entries.{entry_at, table_entries}
-use Rattle.tables_groups.specs.Inside.Group.{GroupState}
-use Rattle.tables_groups.specs.Inside.Table.{CanJoin, Contents, HasFewRecords, IsCounted, IsTableOf, lines_of}
-use Rattle.tables_groups.specs.Inside.Typed.{AllFit, IsTypedTable}
+use Rattle.tables_groups.specs.Entries.{entry_at, table_entries}
+use Rattle.tables_groups.specs.Group.{GroupState}
+use Rattle.tables_groups.specs.Table.{CanJoin, Contents, HasFewRecords, IsCounted, IsTableOf, both_tables, lines_of}
+use Rattle.tables_groups.specs.Typed.{AllFit, IsTypedTable}
 use Rattle.tables_groups.proofs.Counted.{both-counted, counted-within, records-counted}
+use Rattle.tables_groups.proofs.Joint.{both_tables-has}
 use Rattle.tables_groups.proofs.Meaning.{within-can_join}
 use Rattle.tables_groups.proofs.Typed.{both-typed, none-typed, records-typed}
 use Rattle.tables.specs.Functions.{filter_tests}
-use Rattle.tables.specs.Sound.{HasGroupsOfEither}
 use Rattle.tables.proofs.Bound.{bound-functions}
 use Rattle.tables.proofs.Columns.{functions-columns, grouping-columns}
-use Rattle.tables.proofs.EitherWay.{plus-flip}
+use Rattle.query_plan.specs.Planned.{PlannedQuery}
 
 -- ---- of records
 
 -- the groups of a query's table have no more records than the table is of
-pub table-counted : (fields : List Field) (q : TreeForm) (table : Contents) (rows : List Row) (most : ℕ)
-    → IsTableOf (grouping_places fields q) (aggregate_functions fields q) table rows → length rows ≤ most → IsCounted most (indexed_functions fields q) table
-table-counted fields q table rows most is few =
-    records-counted most (grouping_places fields q) (indexed_functions fields q) (filter_tests fields q) table rows
-    (subst (λ (fs : List AggregateFunction). IsTableOf (grouping_places fields q) fs table rows) (sym (bound-functions fields q)) is) few
+pub table-counted : (plan : PlannedQuery) (table : Contents) (rows : List Row) (most : ℕ)
+    → IsTableOf (grouping_places plan.fields plan.query) (aggregate_functions plan.fields plan.query) table rows → length rows ≤ most → IsCounted most (indexed_functions plan.fields plan.query) table
+table-counted plan table rows most is few =
+    records-counted most (grouping_places plan.fields plan.query) (indexed_functions plan.fields plan.query) (filter_tests plan) table rows
+    (subst (λ (fs : List AggregateFunction). IsTableOf (grouping_places plan.fields plan.query) fs table rows) (sym (bound-functions plan)) is) few
 
 -- and have the types of its columns and set functions, where the records fit the columns
-pub table-typed : (fields : List Field) (q : TreeForm) (table : Contents) (rows : List Row)
-    → IsTableOf (grouping_places fields q) (aggregate_functions fields q) table rows → AllFit fields rows
-    → IsTypedTable fields (grouping_places fields q) (indexed_functions fields q) table
-table-typed fields q table rows is fit =
-    records-typed fields (grouping_places fields q) (indexed_functions fields q) (filter_tests fields q) table rows
-    (subst (λ (fs : List AggregateFunction). IsTableOf (grouping_places fields q) fs table rows) (sym (bound-functions fields q)) is) fit
-    (grouping-columns fields q) (functions-columns fields q)
+pub table-typed : (plan : PlannedQuery) (table : Contents) (rows : List Row)
+    → IsTableOf (grouping_places plan.fields plan.query) (aggregate_functions plan.fields plan.query) table rows → AllFit plan.fields rows
+    → IsTypedTable plan.fields (grouping_places plan.fields plan.query) (indexed_functions plan.fields plan.query) table
+table-typed plan table rows is fit =
+    records-typed plan.fields (grouping_places plan.fields plan.query) (indexed_functions plan.fields plan.query) (filter_tests plan) table rows
+    (subst (λ (fs : List AggregateFunction). IsTableOf (grouping_places plan.fields plan.query) fs table rows) (sym (bound-functions plan)) is) fit
+    (grouping-columns plan.fields plan.query) (functions-columns plan.fields plan.query)
 
 -- ---- whatever the records are
 
@@ -87,13 +86,9 @@ module _ (functions others : List FilteredFunction) (m n : ℕ) (first second : 
   counted-can_join few =
       within-can_join functions m n first second few (counted-within m functions first a) (counted-within n functions second moved)
 
-  pub counted-either : (table : Contents) → HasGroupsOfEither first second table → IsCounted (m + n) functions table
-  counted-either table (inl both) = both-counted m n functions first second table a moved both
-  counted-either table (inr both) =
-      subst (λ k. IsCounted k functions table) (plus-flip n m) (both-counted n m functions second first table moved a both)
+  pub counted-both : IsCounted (m + n) functions (both_tables first second)
+  counted-both = both-counted m n functions first second (both_tables first second) a moved (both_tables-has first second)
 
-pub typed-either : (fields : List Field) (set : List ℕ) (functions : List FilteredFunction) (first second table : Contents)
-    → IsTypedTable fields set functions first → IsTypedTable fields set functions second → HasGroupsOfEither first second table
-    → IsTypedTable fields set functions table
-typed-either fields set functions first second table a b (inl both) = both-typed fields set functions first second table a b both
-typed-either fields set functions first second table a b (inr both) = both-typed fields set functions second first table b a both
+pub typed-both : (fields : List Field) (set : List ℕ) (functions : List FilteredFunction) (first second : Contents)
+    → IsTypedTable fields set functions first → IsTypedTable fields set functions second → IsTypedTable fields set functions (both_tables first second)
+typed-both fields set functions first second a b = both-typed fields set functions first second (both_tables first second) a b (both_tables-has first second)

@@ -8,10 +8,10 @@ use Rattle.semantics.specs.Columns.{Field}
 use Rattle.semantics.specs.declared.line_fault.LineFault.{LineFault}
 use Rattle.semantics.specs.Lines.{lines}
 use Rattle.lines.proofs.Outcomes.{decoded-fits}
-use Rattle.semantics.specs.Syntax.{TreeForm}
 use Rattle.semantics.specs.Conditions.{is_kept, kept_records}
 use Rattle.tables.specs.Pieces.{IndexedPiece, records_of}
 use Rattle.tables.proofs.Bags.{all-everywhere, all-filter, all-filter_map, all-flat_map, all-map}
+use Rattle.query_plan.specs.Planned.{PlannedQuery}
 
 abbrev Outcome : Type 0
 Outcome = Result (List Datum) LineFault
@@ -26,8 +26,8 @@ valid-fits fields input =
     (all-map (λ (a : Outcome). (r : List Datum) → result_ok a ≡ Some r → Fits fields r) (decode_line fields) (lines input)
     (all-everywhere _ (lines input) (λ line r e. decoded-fits fields line r (ok-is (decode_line fields line) r e))))
 
-pub kept-fits : (fields : List Field) (q : TreeForm) (pieces : List IndexedPiece)
-    → AllByRecursion (Fits fields) (kept_records fields q (records_of fields pieces))
-kept-fits fields q pieces =
-    all-filter (Fits fields) (is_kept fields q) (records_of fields pieces)
-    (all-flat_map (Fits fields) (λ piece. valid_records fields piece.bytes) pieces (λ piece. valid-fits fields piece.bytes))
+pub kept-fits : (plan : PlannedQuery) (pieces : List IndexedPiece)
+    → AllByRecursion (Fits plan.fields) (kept_records plan.fields plan.query (records_of plan.fields pieces))
+kept-fits plan pieces =
+    all-filter (Fits plan.fields) (is_kept plan.fields plan.query) (records_of plan.fields pieces)
+    (all-flat_map (Fits plan.fields) (λ piece. valid_records plan.fields piece.bytes) pieces (λ piece. valid-fits plan.fields piece.bytes))

@@ -1,5 +1,5 @@
 -- What a partial result contains, as plain values.
-use Rattle.std.specs.Prelude.{◌≡◌, ◌≤◌, ◌+◌, ℕ, List, [], ◌∷◌, ◌++◌, length}
+use Rattle.std.specs.Prelude.{◌≡◌, ◌≤◌, ◌+◌, ℕ, List, ◌∷◌, ◌++◌, length, []}
 use Rattle.semantics.specs.Sets.{grouping_places}
 use Rattle.semantics.specs.declared.line_fault.LineFault.{LineFault}
 use Rattle.semantics.specs.GroupStates.{EntryForm}
@@ -7,10 +7,10 @@ use Rattle.semantics.specs.Parts.{ContentsForm}
 use Rattle.group_states.specs.States.{entries_of}
 use Rattle.query_plan.specs.Planned.{PlannedQuery}
 use Rattle.query_resolve.specs.Functions.{indexed_functions}
-use Rattle.tables_groups.specs.Inside.Entries.{IsTypedEntry, table_entries}
-use Rattle.tables_groups.specs.Inside.Table.{IsCounted}
+use Rattle.tables_groups.specs.Entries.{IsTypedEntry, table_entries}
+use Rattle.tables_groups.specs.Table.{IsCounted}
 use Rattle.tables.specs.declared.contents.PartialContents.{PartialContents}
-use Rattle.tables.specs.Partials.{HaveOneShape}
+use Rattle.tables.specs.Partials.{HaveOneShape, note_of_one}
 use Rattle.tables.specs.States.{PartialState}
 
 -- those that a value of the code is
@@ -35,7 +35,7 @@ HasRoomFor members partial = (most : ℕ) × HasMembersWithin most partial × (m
 pub record HasRefusals (count : ℕ) (faults : List (ℕ × LineFault)) (partial : PartialState) : Type 0 where
   pub lines : partial.lines ≡ count
   pub refused : partial.refused ≡ length faults
-  pub notes : partial.notes ≡ record { index = 0; lines = count; refused = faults } ∷ []
+  pub notes : partial.notes ≡ note_of_one count faults ∷ []
 
 -- a partial result has the contents, as one piece
 pub record HasContents (partial : PartialState) (contents : ContentsForm) : Type 0 where

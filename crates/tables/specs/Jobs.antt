@@ -1,9 +1,12 @@
 -- What a job is, which a pool is given to work on, and what its pieces come to.
-use Rattle.std.specs.Prelude.{ℕ, List, []}
+use Rattle.std.specs.Prelude.{ℕ, List}
 use Rattle.lines.specs.declared.pieces.Piece.{Piece}
 use Rattle.pool.specs.Reduction.{Reduction}
+use Rattle.pool.specs.Totals.{total}
 use Rattle.query_plan.specs.Planned.{PlannedQuery}
-use Rattle.tables.specs.Denotations.{IsDenotation, Denotation, both, denotation, denotation_at, denotation_from}
+use Rattle.tables.specs.Partials.{StandsFor, both, none, of_piece}
+use Rattle.tables.specs.Pieces.{IndexedPiece, piece_at, piece_from}
+use Rattle.tables.specs.States.{PartialState}
 use Rattle.tables.specs.declared.job.Job.{Job}
 use Rattle.tables.specs.declared.job.JobBy.{JobBy}
 use Rattle.tables.specs.declared.executor.Executor as Executor
@@ -20,29 +23,28 @@ input_of_job job = job.input.now
 abbrev pub pieces_of_job : Job → List Piece
 pieces_of_job job = job.pieces.now
 
--- some pieces come to this under the job's plan
-abbrev pub IsDenotationUnder : Job → Denotation → Type 0
-IsDenotationUnder job m = IsDenotation (plan_of_job job).fields (plan_of_job job).query m
+-- what so many pieces come to, put together one after the other
+abbrev pub total_of : PlannedQuery → (ℕ → IndexedPiece) → ℕ → PartialState
+total_of plan piece count = total (none plan) both (λ i. of_piece plan (piece i)) count
 
--- what no pieces come to under the job's plan
-abbrev pub no_denotation : Job → Denotation
-no_denotation job = denotation (plan_of_job job).fields (plan_of_job job).query []
+-- what a fold over pieces combines, by their numbers: results of the plan, weighed by their refused lines, whose load is that of their lines
+abbrev pub reduction_of : PlannedQuery → (ℕ → IndexedPiece) → Reduction PartialState
+reduction_of plan piece = record {
+  fits = λ partial. (pieces : List IndexedPiece) × StandsFor plan partial pieces;
+  unit = none plan;
+  combine = both;
+  piece = λ i. of_piece plan (piece i);
+  weight = λ partial. partial.refused;
+  load = λ partial. partial.lines;
+}
 
--- what the job's piece with this index comes to
-abbrev pub denotation_of_piece : Job → ℕ → Denotation
-denotation_of_piece job index = denotation_at (plan_of_job job).fields (plan_of_job job).query (input_of_job job) (pieces_of_job job) index
+-- so over the job's pieces
+abbrev pub reduction_of_job : Job → Reduction PartialState
+reduction_of_job job = reduction_of (plan_of_job job) (piece_at (input_of_job job) (pieces_of_job job))
 
--- what the job's piece comes to that comes so many behind its first one, where that has the index `first`
-abbrev pub denotation_of_piece_from : ℕ → Job → ℕ → Denotation
-denotation_of_piece_from first job place = denotation_from (plan_of_job job).fields (plan_of_job job).query first (input_of_job job) (pieces_of_job job) place
-
--- what a fold over the job's pieces combines
-abbrev pub reduction_of_job : Job → Reduction Denotation
-reduction_of_job job = record { fits = IsDenotationUnder job; unit = no_denotation job; combine = both; piece = denotation_of_piece job; weight = λ m. m.refused; load = λ m. m.lines }
-
--- the same, where the job's first piece has the index `first`
-abbrev pub reduction_of_job_from : ℕ → Job → Reduction Denotation
-reduction_of_job_from first job = record { fits = IsDenotationUnder job; unit = no_denotation job; combine = both; piece = denotation_of_piece_from first job; weight = λ m. m.refused; load = λ m. m.lines }
+-- so where the job's first piece has the index `first`
+abbrev pub reduction_of_job_from : ℕ → Job → Reduction PartialState
+reduction_of_job_from first job = reduction_of (plan_of_job job) (piece_from first (input_of_job job) (pieces_of_job job))
 
 -- ---- a job whose results an executor merges
 

@@ -1,41 +1,123 @@
--- What a partial result stands for.
-use Rattle.std.specs.Prelude.{◌≡◌, ℕ, List, [], ◌∷◌, ◌++◌, length, map}
-use Rattle.semantics.specs.Columns.{Field}
-use Rattle.semantics.specs.Records.{valid_records, refused_lines}
-use Rattle.lines.specs.Pieces.{AreWholeLines}
-use Rattle.semantics.specs.Syntax.{TreeForm}
-use Rattle.semantics.specs.Sets.{grouping_places, sets_of}
-use Rattle.query_resolve.specs.Functions.{indexed_functions}
+-- What a partial result is: what pieces of an input come to, and what two of them come to together. Of one query partial results are a commutative monoid by `both`,
+-- with `none` as its unit; and the result of some pieces and more pieces is `both` of their results (`pieces_law`). So it does not matter which thread, round or machine
+-- made a result of which pieces, nor in which order they were put together.
+use Rattle.std.specs.Prelude.{◌≡◌, ◌+◌, ℕ, suc, zero, List, ◌∷◌, ◌++◌, length, map, nat_eq, []}
+use Rattle.std.specs.List.{IsDistinct}
+use Rattle.semantics.specs.declared.line_fault.LineFault.{LineFault}
 use Rattle.semantics.specs.Conditions.{kept_records}
-use Rattle.semantics.specs.Groups.{Row}
-use Rattle.tables_groups.specs.Bags.{SameBag}
-use Rattle.tables_groups.specs.Inside.Table.{IsTableOf}
 use Rattle.semantics.specs.Found.{aggregate_functions, query_found}
+use Rattle.semantics.specs.Groups.{Row}
+use Rattle.semantics.specs.Order.{in_order}
+use Rattle.semantics.specs.Records.{refused_lines, valid_records}
+use Rattle.semantics.specs.Sets.{grouping_places, sets_of}
+use Rattle.query_plan.specs.Planned.{PlannedQuery}
+use Rattle.query_resolve.specs.Functions.{indexed_functions}
+use Rattle.tables_groups.specs.Bags.{SameBag}
+use Rattle.tables_groups.specs.Table.{both_tables, table_of}
 use Rattle.tables.specs.Functions.{filter_texts}
-use Rattle.tables.specs.Notes.{note_of}
+use Rattle.tables.specs.Notes.{Noted, note_of, note_order, refused_lines_from}
 use Rattle.tables.specs.Pieces.{IndexedPiece, IsCutInto, all_lines, records_of, refused_lines_within}
 use Rattle.tables.specs.States.{GroupsState, PartialState}
 
--- Under a schema and a query a partial result stands for pieces, in whatever order: it has the query's grouping sets, set functions and filters, the table of all
--- grouping columns over the valid records of all lines of the pieces that are kept, the numbers of all lines and of all refused lines, and of each piece its note.
-pub record StandsFor (fields : List Field) (q : TreeForm) (partial : PartialState) (pieces : List IndexedPiece) : Type 0 where
-  pub sets : partial.sets ≡ sets_of fields q
-  pub functions : partial.functions ≡ indexed_functions fields q
-  pub filters : partial.filters ≡ filter_texts fields q
-  pub table : IsTableOf (grouping_places fields q) (aggregate_functions fields q) partial.table (kept_records fields q (records_of fields pieces))
-  pub lines : partial.lines ≡ length (all_lines pieces)
-  pub refused : partial.refused ≡ length (refused_lines_within fields pieces)
-  pub notes : SameBag (map (note_of fields) pieces) partial.notes
+-- ---- of pieces
 
--- a partial result of a query stands for some pieces
-abbrev pub IsPartialOf : List Field → TreeForm → PartialState → Type 0
-IsPartialOf fields q partial = ∥ ((pieces : List IndexedPiece) × StandsFor fields q partial pieces) ∥₁
+-- what pieces come to, in whatever order: the grouping sets, the set functions and the filters of the query, the table of all grouping columns over the valid records of
+-- all lines of the pieces that WHERE keeps, the numbers of all lines and of all refused lines, and the note of each piece
+abbrev pub of_pieces : PlannedQuery → List IndexedPiece → PartialState
+of_pieces plan pieces = record {
+  sets = sets_of plan.fields plan.query;
+  functions = indexed_functions plan.fields plan.query;
+  filters = filter_texts plan;
+  table = table_of (grouping_places plan.fields plan.query) (aggregate_functions plan.fields plan.query) (kept_records plan.fields plan.query (records_of plan.fields pieces));
+  lines = length (all_lines pieces);
+  refused = length (refused_lines_within plan.fields pieces);
+  notes = in_order note_order (map (note_of plan.fields) pieces);
+}
 
--- a partial result stands for an input: for pieces that the input is cut into
-pub record StandsForInput (fields : List Field) (q : TreeForm) (partial : PartialState) (input : List ℕ) : Type 0 where
+-- what no pieces come to
+abbrev pub none : PlannedQuery → PartialState
+none plan = of_pieces plan []
+
+-- what one piece comes to
+abbrev pub of_piece : PlannedQuery → IndexedPiece → PartialState
+of_piece plan piece = of_pieces plan (piece ∷ [])
+
+-- a partial result stands for pieces where it is what they come to
+abbrev pub StandsFor : PlannedQuery → PartialState → List IndexedPiece → Type 0
+StandsFor plan partial pieces = partial ≡ of_pieces plan pieces
+
+-- it stands for some pieces
+abbrev pub IsPartialOf : PlannedQuery → PartialState → Type 0
+IsPartialOf plan partial = ∥ ((pieces : List IndexedPiece) × StandsFor plan partial pieces) ∥₁
+
+-- it stands for an input: for pieces that the input is cut into
+pub record StandsForInput (plan : PlannedQuery) (partial : PartialState) (input : List ℕ) : Type 0 where
   pub pieces : List IndexedPiece
-  pub stands : StandsFor fields q partial pieces
+  pub stands : StandsFor plan partial pieces
   pub cut : IsCutInto input pieces
+
+-- ---- of two
+
+-- two partial results have one shape where their grouping sets, set functions and filters are the same
+pub record HaveOneShape (partial other : PartialState) : Type 0 where
+  pub sets : partial.sets ≡ other.sets
+  pub functions : partial.functions ≡ other.functions
+  pub filters : partial.filters ≡ other.filters
+
+-- what two of one shape come to together: at each key of their tables what both keep, all lines, all refused lines, and the notes of both
+abbrev pub both : PartialState → PartialState → PartialState
+both first second = record {
+  sets = first.sets;
+  functions = first.functions;
+  filters = first.filters;
+  table = both_tables first.table second.table;
+  lines = first.lines + second.lines;
+  refused = first.refused + second.refused;
+  notes = in_order note_order (first.notes ++ second.notes);
+}
+
+-- ---- as one piece
+
+-- no two of its pieces have one index
+abbrev pub HasOwnIndexes : PartialState → Type 0
+HasOwnIndexes partial = IsDistinct nat_eq (map (λ note. note.index) partial.notes)
+
+-- the refused lines of its pieces, each by its number among the lines of all pieces
+abbrev pub numbered_lines : PartialState → List (ℕ × LineFault)
+numbered_lines partial = refused_lines_from 0 partial.notes
+
+-- the note of so many lines as one piece, of index 0, with these refused ones
+abbrev pub note_of_one : ℕ → List (ℕ × LineFault) → Noted
+note_of_one lines refused = record { index = 0; lines = lines; refused = refused }
+
+-- that note alone; of no line there is none
+abbrev pub notes_of_one : ℕ → List (ℕ × LineFault) → List Noted
+notes_of_one zero refused = []
+notes_of_one (suc more) refused = note_of_one (suc more) refused ∷ []
+
+-- the same lines and groups as one piece, of index 0, whichever pieces they were cut into
+abbrev pub as_one : PartialState → PartialState
+as_one partial = record {
+  sets = partial.sets;
+  functions = partial.functions;
+  filters = partial.filters;
+  table = partial.table;
+  lines = partial.lines;
+  refused = partial.refused;
+  notes = notes_of_one partial.lines (numbered_lines partial);
+}
+
+-- a front and the rest of an input as one piece: what both come to, where the refused lines of the rest are numbered behind all lines of the front
+abbrev pub concatenation : PartialState → PartialState → PartialState
+concatenation front rest = record {
+  sets = front.sets;
+  functions = front.functions;
+  filters = front.filters;
+  table = both_tables front.table rest.table;
+  lines = front.lines + rest.lines;
+  refused = front.refused + rest.refused;
+  notes = note_of_one (front.lines + rest.lines) (numbered_lines front ++ map (λ line. (front.lines + line.0, line.1)) (numbered_lines rest)) ∷ [];
+}
 
 -- the one piece that is the whole input
 abbrev pub whole_piece : List ℕ → List IndexedPiece
@@ -46,44 +128,20 @@ abbrev pub one_piece : List ℕ → List IndexedPiece
 one_piece [] = []
 one_piece (byte ∷ bytes) = whole_piece (byte ∷ bytes)
 
--- partial results have one shape where their grouping sets, set functions and filters are the same
-pub record HaveOneShape (partial other : PartialState) : Type 0 where
-  pub sets : partial.sets ≡ other.sets
-  pub functions : partial.functions ≡ other.functions
-  pub filters : partial.filters ≡ other.filters
-
--- ---- partial results that are made of others
-
--- a partial result is the merge of two others: whatever pieces these stand for, under whatever schema and query, it stands for the pieces of both
-abbrev pub IsMergeOf : PartialState → PartialState → PartialState → Type 0
-IsMergeOf first second merged =
-    (fields : List Field) (q : TreeForm) (pieces more : List IndexedPiece)
-    → StandsFor fields q first pieces → StandsFor fields q second more → StandsFor fields q merged (pieces ++ more)
-
--- a partial result is one of each query of which both others are
-abbrev pub IsOfSharedQueries : PartialState → PartialState → PartialState → Type 0
-IsOfSharedQueries first second merged =
-    (fields : List Field) (q : TreeForm) → IsPartialOf fields q first → IsPartialOf fields q second → IsPartialOf fields q merged
-
--- a partial result is the concatenation of two others: where these stand for the front of an input, which is whole lines, and for the rest behind it, it stands for the input as one piece
-abbrev pub IsConcatenationOf : PartialState → PartialState → PartialState → Type 0
-IsConcatenationOf first second whole =
-    (fields : List Field) (q : TreeForm) (front back : List ℕ)
-    → StandsForInput fields q first front → StandsForInput fields q second back
-    → AreWholeLines front → StandsFor fields q whole (whole_piece (front ++ back))
-
--- a partial result is another one in one piece: whatever input that stands for, it stands for the input as one piece of index 0, or as none where there is no byte
-abbrev pub IsInOnePiece : PartialState → PartialState → Type 0
-IsInOnePiece before partial =
-    (fields : List Field) (q : TreeForm) (input : List ℕ) → StandsForInput fields q before input → StandsFor fields q partial (one_piece input)
+-- a partial result is another one, but for its notes
+pub record DiffersInNotes (before partial : PartialState) : Type 0 where
+  pub shape : HaveOneShape before partial
+  pub table : partial.table ≡ before.table
+  pub lines : partial.lines ≡ before.lines
+  pub refused : partial.refused ≡ before.refused
 
 -- ---- results
 
 -- the rows are those of the groups that the query finds in a list of records
-abbrev pub GivesGroups : List Field → TreeForm → GroupsState → List Row → Type 0
-GivesGroups fields q groups rows = SameBag groups.found (query_found fields q rows)
+abbrev pub GivesGroups : PlannedQuery → GroupsState → List Row → Type 0
+GivesGroups plan groups rows = SameBag groups.found (query_found plan.fields plan.query rows)
 
 -- the rows are those of the groups of the valid records of an input, and the refused lines are its refused lines
-pub record IsResultOf (fields : List Field) (q : TreeForm) (groups : GroupsState) (input : List ℕ) : Type 0 where
-  pub rows : GivesGroups fields q groups (valid_records fields input)
-  pub refused : groups.refused ≡ refused_lines fields input
+pub record IsResultOf (plan : PlannedQuery) (groups : GroupsState) (input : List ℕ) : Type 0 where
+  pub rows : GivesGroups plan groups (valid_records plan.fields input)
+  pub refused : groups.refused ≡ refused_lines plan.fields input

@@ -1,12 +1,13 @@
 -- Pieces of an input in any order, the records of their lines, and their refused lines by number.
-use Rattle.std.specs.Prelude.{◌≡◌, ℕ, ◌+◌, nat_eq, nat_lt, List, length, map, filter}
-use Rattle.std.specs.List.{IsDistinct, flat_map}
+use Rattle.std.specs.Prelude.{◌≡◌, ℕ, ◌+◌, min, nat_eq, nat_lt, List, length, map, filter, slice_index_or}
+use Rattle.std.specs.List.{IsDistinct, enumerate_from, flat_map}
 use Rattle.std.specs.List.Sorted.{IsStrictlyIncreasing}
 use Rattle.semantics.specs.Columns.{Field}
 use Rattle.semantics.specs.declared.line_fault.LineFault.{LineFault}
 use Rattle.semantics.specs.Lines.{lines}
 use Rattle.semantics.specs.Records.{valid_records, refused_lines}
-use Rattle.lines.specs.Pieces.{AllButLast, EndsInFeed}
+use Rattle.lines.specs.Pieces.{AllButLast, EndsInFeed, bytes_of}
+use Rattle.lines.specs.declared.pieces.Piece.{Piece}
 use Rattle.tables_groups.specs.Bags.{SameBag}
 use Rattle.semantics.specs.Groups.{Row}
 
@@ -58,3 +59,30 @@ pub record IsCutInto (input : List ℕ) (pieces : List IndexedPiece) : Type 0 wh
   pub in_order : AreInOrder pieces
   pub joined : joined_bytes pieces ≡ input
   pub feeds : AllButLast (λ piece. EndsInFeed piece.bytes) pieces
+
+-- ---- pieces of an input, by where they start and stop
+
+-- a piece of the input beside its index
+abbrev pub with_index : List ℕ → ℕ × Piece → IndexedPiece
+with_index input piece = record { index = piece.0; bytes = bytes_of input piece.1 }
+
+-- the pieces of the input with their indexes, from `first` on
+abbrev pub indexed_pieces_from : ℕ → List ℕ → List Piece → List IndexedPiece
+indexed_pieces_from first input pieces = map (with_index input) (enumerate_from first pieces)
+
+-- so from 0 on
+abbrev pub indexed_pieces : List ℕ → List Piece → List IndexedPiece
+indexed_pieces input pieces = indexed_pieces_from 0 input pieces
+
+-- the piece that starts and stops at the first byte, and so is empty
+abbrev pub no_bytes : Piece
+no_bytes = record { start = 0; stop = 0 }
+
+-- the piece of the input with this index; past the last piece an empty one
+abbrev pub piece_at : List ℕ → List Piece → ℕ → IndexedPiece
+piece_at input pieces index = with_index input (index, slice_index_or pieces index no_bytes)
+
+-- the piece of the input that comes so many behind the first one, which has the index `first`; past the last piece an empty one. No index is above the greatest number of
+-- 32 bits
+abbrev pub piece_from : ℕ → List ℕ → List Piece → ℕ → IndexedPiece
+piece_from first input pieces place = with_index input (min (first + place) 4294967295, slice_index_or pieces place no_bytes)

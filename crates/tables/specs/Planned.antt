@@ -1,6 +1,5 @@
 -- What partial results and groups are under a plan: under its columns and its query.
-use Rattle.std.specs.Prelude.{◌≡◌, List, [], ◌∷◌, ◌++◌, map, ℕ}
-use Rattle.lines.specs.Pieces.{AreWholeLines}
+use Rattle.std.specs.Prelude.{◌≡◌, List, map, ℕ}
 use Rattle.semantics.specs.Sets.{grouping_places}
 use Rattle.semantics.specs.Conditions.{kept_records}
 use Rattle.tables_groups.specs.declared.group.Group.{Group}
@@ -12,21 +11,9 @@ use Rattle.query_plan.specs.Planned.{PlannedQuery}
 use Rattle.tables_groups.specs.Fitting.{AreFitting}
 use Rattle.semantics.specs.Found.{Found, aggregate_functions}
 use Rattle.tables.specs.Members.{HasEachRecordOnce}
-use Rattle.tables.specs.Partials.{GivesGroups, IsPartialOf, IsResultOf, StandsFor, StandsForInput, whole_piece}
+use Rattle.tables.specs.Partials.{GivesGroups, IsResultOf, StandsFor}
 use Rattle.tables.specs.Pieces.{AreInOrder, AreNumbered, HaveOwnIndexes, IndexedPiece, IsCutInto, records_of, refused_lines_numbered}
 use Rattle.tables.specs.States.{GroupsState, PartialState}
-
-abbrev pub StandsForUnder : PlannedQuery → PartialState → List IndexedPiece → Type 0
-StandsForUnder plan partial pieces = StandsFor plan.fields plan.query partial pieces
-
-abbrev pub IsPartialUnder : PlannedQuery → PartialState → Type 0
-IsPartialUnder plan partial = IsPartialOf plan.fields plan.query partial
-
-abbrev pub GivesGroupsUnder : PlannedQuery → GroupsState → List Row → Type 0
-GivesGroupsUnder plan groups rows = GivesGroups plan.fields plan.query groups rows
-
-abbrev pub IsResultUnder : PlannedQuery → GroupsState → List ℕ → Type 0
-IsResultUnder plan groups input = IsResultOf plan.fields plan.query groups input
 
 abbrev pub AreFittingUnder : PlannedQuery → List Found → Type 0
 AreFittingUnder plan found = AreFitting plan.fields plan.query found
@@ -34,9 +21,6 @@ AreFittingUnder plan found = AreFitting plan.fields plan.query found
 -- groups that fit the query of some plan
 abbrev pub FitSomePlan : List Found → Type 0
 FitSomePlan found = ∥ ((plan : PlannedQuery) × AreFittingUnder plan found) ∥₁
-
-abbrev pub HasEachRecordOnceUnder : PlannedQuery → List Found → List Row → Type 0
-HasEachRecordOnceUnder plan found rows = HasEachRecordOnce plan.fields plan.query found rows
 
 -- each place of the set is that of a grouping column
 abbrev pub AreGroupingColumns : PlannedQuery → List ℕ → Type 0
@@ -52,21 +36,7 @@ GivesGroupsOfSet plan set groups rows =
 abbrev pub HasMembersOfFiner : PlannedQuery → List ℕ → Key → List Row → Type 0
 HasMembersOfFiner plan set key rows = SameBag (finer_members (grouping_places plan.fields plan.query) set key rows) (members set key rows)
 
--- ---- what calls make of a partial result
-
--- a partial result stands for no pieces
-abbrev pub StandsForNone : PlannedQuery → PartialState → Type 0
-StandsForNone plan partial = StandsForUnder plan partial []
-
--- a partial result has one piece more than another: whatever pieces that stands for, it stands for these and the piece
-abbrev pub HasOneMorePiece : PlannedQuery → PartialState → IndexedPiece → PartialState → Type 0
-HasOneMorePiece plan before piece partial =
-    (pieces : List IndexedPiece) → StandsForUnder plan before pieces → StandsForUnder plan partial (pieces ++ piece ∷ [])
-
--- a partial result has the rest of an input behind another: where that stands for the front, which is whole lines, it stands for front and rest as one piece
-abbrev pub HasRestBehind : PlannedQuery → PartialState → List ℕ → PartialState → Type 0
-HasRestBehind plan before rest partial =
-    (front : List ℕ) → StandsForInput plan.fields plan.query before front → AreWholeLines front → StandsForUnder plan partial (whole_piece (front ++ rest))
+-- ---- what a partial result gives
 
 -- groups and refused lines are what a partial result gives when it is finished, whatever pieces it stands for:
 -- rows      the rows are those of the groups of their records;
@@ -76,9 +46,9 @@ HasRestBehind plan before rest partial =
 -- refused   where the pieces stand in their order, these are their refused lines one after the other;
 -- whole     where the pieces are those of an input that was cut between its lines, it is the result of the input.
 pub record IsFinishOf (plan : PlannedQuery) (partial : PartialState) (groups : GroupsState) : Type 0 where
-  pub rows : (pieces : List IndexedPiece) → StandsForUnder plan partial pieces → GivesGroupsUnder plan groups (records_of plan.fields pieces)
+  pub rows : (pieces : List IndexedPiece) → StandsFor plan partial pieces → GivesGroups plan groups (records_of plan.fields pieces)
   pub fit : AreFittingUnder plan groups.found
-  pub members : (pieces : List IndexedPiece) → StandsForUnder plan partial pieces → HasEachRecordOnceUnder plan groups.found (records_of plan.fields pieces)
-  pub numbered : (pieces : List IndexedPiece) → StandsForUnder plan partial pieces → HaveOwnIndexes pieces → AreNumbered plan.fields pieces groups.refused
-  pub refused : (pieces : List IndexedPiece) → StandsForUnder plan partial pieces → AreInOrder pieces → groups.refused ≡ refused_lines_numbered plan.fields pieces
-  pub whole : (input : List ℕ) (pieces : List IndexedPiece) → StandsForUnder plan partial pieces → IsCutInto input pieces → IsResultUnder plan groups input
+  pub members : (pieces : List IndexedPiece) → StandsFor plan partial pieces → HasEachRecordOnce plan groups.found (records_of plan.fields pieces)
+  pub numbered : (pieces : List IndexedPiece) → StandsFor plan partial pieces → HaveOwnIndexes pieces → AreNumbered plan.fields pieces groups.refused
+  pub refused : (pieces : List IndexedPiece) → StandsFor plan partial pieces → AreInOrder pieces → groups.refused ≡ refused_lines_numbered plan.fields pieces
+  pub whole : (input : List ℕ) (pieces : List IndexedPiece) → StandsFor plan partial pieces → IsCutInto input pieces → IsResultOf plan groups input

@@ -1,22 +1,10 @@
 -- Tables of grouping sets, rolled out of one another.
-use Rattle.std.specs.Prelude.{◌≡◌, ◌≢◌, ◌<◌, ℕ, List, Option, Some, All, IfSome, length, map, slice_index_or}
-use Rattle.std.specs.declared.alloc.Global.{Global}
-use Rattle.std.specs.declared.vec.Vec.{Vec}
+use Rattle.std.specs.Prelude.{◌≡◌, ◌<◌, ℕ, List, IfSome, length, slice_index_or}
 use Rattle.query_resolve.specs.declared.function.FilteredFunction.{FilteredFunction}
-use Rattle.tables_groups.specs.declared.group.Group.{Group}
-use Rattle.tables_groups.specs.Rolled.{AreAmong}
-use Rattle.tables_groups.specs.Inside.Table.{Contents}
+use Rattle.tables_groups.specs.Table.{Contents}
 use Rattle.tables.specs.declared.rolling.Roll.{Roll}
 use Rattle.tables.specs.declared.rolling.SetTable.{SetTable}
-use Rattle.tables.specs.Properties.{AreGroupsOf, AreGroupsWith, HasProperty, Property}
-
--- each table has a property, under its set
-abbrev pub HaveProperty : Property → List FilteredFunction → List SetTable → Type 0
-HaveProperty property functions tables = All (λ (table : SetTable). HasProperty property table.set.items functions table.table) tables
-
--- Tables are of the records that one table is of, which is under a finer set: whatever records those are, and whatever the filters keep. So they are of the types and of the number of records of that one.
-abbrev pub AreRollsOf : List ℕ → List FilteredFunction → Contents → List SetTable → Type 0
-AreRollsOf finer functions table tables = (property : Property) → HasProperty property finer functions table → HaveProperty property functions tables
+use Rattle.tables.specs.Properties.{HasProperty, Property}
 
 -- so is one table, under a set
 abbrev pub IsRolledOutOf : List FilteredFunction → SetTable → List ℕ → Contents → Type 0
@@ -35,59 +23,3 @@ HasRolled functions finer old new = (new.set.items ≡ old.set.items) × (new.in
 -- so is each roll of a list
 abbrev pub AreRolled : List FilteredFunction → SetTable → List Roll → List Roll → Type 0
 AreRolled functions finer olds news = (i : ℕ) (d : Roll) → i < length olds → HasRolled functions finer (slice_index_or olds i d) (slice_index_or news i d)
-
--- each roll that has a table has a property, under its set
-abbrev pub HavePropertyWhereMade : Property → List FilteredFunction → List Roll → Type 0
-HavePropertyWhereMade property functions rolls = All (λ (roll : Roll). IfSome roll.table (HasProperty property roll.set.items functions)) rolls
-
--- ---- sets and their indexes
-
--- a grouping set, and its index in the list of all, if it stands there
-abbrev pub ListedSet : Type 0
-ListedSet = Option ℕ × List ℕ
-
-abbrev pub listed_roll : Roll → ListedSet
-listed_roll roll = (Some roll.index, roll.set.items)
-
-abbrev pub listed_table : SetTable → ListedSet
-listed_table table = (table.index, table.set.items)
-
--- the sets of rolls
-abbrev pub sets_of_rolls : List Roll → List ListedSet
-sets_of_rolls rolls = map listed_roll rolls
-
--- the sets of tables
-abbrev pub sets_of_tables : List SetTable → List ListedSet
-sets_of_tables tables = map listed_table tables
-
--- where the set has an index, it stands there in the list
-abbrev pub StandsAtIndex : List (Vec ℕ Global) → ListedSet → Type 0
-StandsAtIndex sets set = (index : ℕ) (other : Vec ℕ Global) → set.0 ≡ Some index → (index < length sets) × ((slice_index_or sets index other).items ≡ set.1)
-
--- none of the sets has the index
-abbrev pub NoneHasIndex : ℕ → List ListedSet → Type 0
-NoneHasIndex index sets = All (λ (set : ListedSet). set.0 ≢ Some index) sets
-
--- one of some sets has all columns of the set
-abbrev pub HasFiner : List ℕ → List ListedSet → Type 0
-HasFiner set sets = All (λ (other : ListedSet). AreAmong set other.1 → ⊥) sets → ⊥
-
--- so it is with the set of each roll
-abbrev pub HaveFiner : List Roll → List ListedSet → Type 0
-HaveFiner rolls sets = All (λ (roll : Roll). HasFiner roll.set.items sets) rolls
-
--- ---- groups
-
--- of lists of groups, those at another index than that of the table's set stay
-abbrev pub KeepsOthers : SetTable → List (Vec Group Global) → List (Vec Group Global) → Type 0
-KeepsOthers table olds news = (index : ℕ) (other : Vec Group Global) → table.index ≢ Some index → slice_index_or news index other ≡ slice_index_or olds index other
-
--- where the table's set has an index, the groups that stand there are those of the table
-abbrev pub HasGroupsOf : SetTable → List (Vec Group Global) → Type 0
-HasGroupsOf table groups = (index : ℕ) (other : Vec Group Global) (property : Property) (functions : List FilteredFunction) → table.index ≡ Some index
-    → HasProperty property table.set.items functions table.table → AreGroupsWith property functions table.set.items (slice_index_or groups index other).items
-
--- for each set of a list there are its groups of the records that one table is of, which is under a finer set; they have the types that the table has
-abbrev pub AreGroupsOfRolls : List ℕ → List FilteredFunction → Contents → List (List ℕ) → List (Vec Group Global) → Type 0
-AreGroupsOfRolls finer functions table sets groups =
-    (property : Property) → HasProperty property finer functions table → AreGroupsOf property functions sets groups

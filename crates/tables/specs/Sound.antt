@@ -1,10 +1,10 @@
 -- Partial results that a plan can finish, whatever records they are of.
-use Rattle.std.specs.Prelude.{◌≡◌, ◌⊎◌}
+use Rattle.std.specs.Prelude.{◌≡◌}
 use Rattle.semantics.specs.Sets.{grouping_places, sets_of}
 use Rattle.query_plan.specs.Planned.{PlannedQuery}
 use Rattle.query_resolve.specs.Functions.{indexed_functions}
-use Rattle.tables_groups.specs.Inside.Table.{Contents, HasGroupsOfBoth}
-use Rattle.tables_groups.specs.Inside.Typed.{IsTypedTable}
+use Rattle.tables_groups.specs.Table.{Contents}
+use Rattle.tables_groups.specs.Typed.{IsTypedTable}
 use Rattle.tables.specs.Functions.{filter_texts}
 use Rattle.tables.specs.States.{PartialState}
 
@@ -17,17 +17,5 @@ IsTypedTableUnder plan table = IsTypedTable plan.fields (grouping_places plan.fi
 pub record IsSoundUnder (plan : PlannedQuery) (partial : PartialState) : Type 0 where
   pub sets : partial.sets ≡ sets_of plan.fields plan.query
   pub functions : partial.functions ≡ indexed_functions plan.fields plan.query
-  pub filters : partial.filters ≡ filter_texts plan.fields plan.query
+  pub filters : partial.filters ≡ filter_texts plan
   pub typed : IsTypedTableUnder plan partial.table
-
--- a partial result is sound under each plan under which both others are
-abbrev pub IsSoundWhereBoth : PartialState → PartialState → PartialState → Type 0
-IsSoundWhereBoth first second both = (plan : PlannedQuery) → IsSoundUnder plan first → IsSoundUnder plan second → IsSoundUnder plan both
-
--- so is it where one other is
-abbrev pub IsSoundWhere : PartialState → PartialState → Type 0
-IsSoundWhere before partial = (plan : PlannedQuery) → IsSoundUnder plan before → IsSoundUnder plan partial
-
--- at each key a table has what both others have, in whichever order these were put together
-abbrev pub HasGroupsOfEither : Contents → Contents → Contents → Type 0
-HasGroupsOfEither first second table = HasGroupsOfBoth first second table ⊎ HasGroupsOfBoth second first table

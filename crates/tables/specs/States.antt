@@ -2,11 +2,11 @@
 use Rattle.std.specs.Prelude.{ℕ, List}
 use Rattle.semantics.specs.declared.line_fault.LineFault.{LineFault}
 use Rattle.query_resolve.specs.declared.function.FilteredFunction.{FilteredFunction}
-use Rattle.tables_groups.specs.Inside.Table.{Contents}
+use Rattle.tables_groups.specs.Table.{Contents}
 use Rattle.semantics.specs.Found.{Found}
 use Rattle.tables.specs.Notes.{Noted}
 
--- A partial result: its grouping sets, its set functions, the canonical texts of their filters, the groups of its table, how many lines and refused lines it counts, and of each piece its note.
+-- A partial result: its grouping sets, its set functions, the canonical texts of their filters, the groups of its table, how many lines and refused lines it counts, and the notes of its pieces, in their order.
 pub record PartialState : Type 0 where
   pub sets : List (List ℕ)
   pub functions : List FilteredFunction

@@ -1,12 +1,10 @@
 //! Who begins, merges, rolls up and finishes tables of groups.
-ghost use Rattle.std.specs.Prelude.{◌≡◌, ◌<◌, ◌⊎◌, ◌+◌, All, ℕ, IfOk, List};
+ghost use Rattle.std.specs.Prelude.{◌≡◌, ◌<◌, ◌⊎◌, All, IfOk};
 ghost use Rattle.std.specs.FinMap as fin;
-ghost use Rattle.tables_groups.specs.Inside.Table.{AreGroupsOfTable, AreGroupsWithin, CanJoin, HasFewRecords, IsOfNone, IsUnionOf};
-ghost use Rattle.tables_groups.specs.Inside.Typed.{HaveTypesOfTable};
+ghost use Rattle.tables_groups.specs.Table.{AreGroupsOfTable, CanJoin, HasFewRecords, IsOfNone, both_tables};
+ghost use Rattle.tables_groups.specs.Typed.{HaveTypesOfTable};
 ghost use Rattle.tables_groups.specs.Rolled.{AreAmong};
 ghost use Rattle.tables.specs.SetTables.{AreRolled, HasRolled, set_of_roll};
-ghost use Rattle.tables.specs.Sound.{HasGroupsOfEither};
-ghost use Rattle.query_resolve.specs.declared.function.FilteredFunction.{FilteredFunction};
 
 use crate::rolling::{Roll, SetTable};
 use query_plan::FilteredFunction;
@@ -81,11 +79,7 @@ pub trait Executor {
     fn merge_tables(&self, first: Table, second: Table) -> Result<Table, AllocError>
         requires ready { Self.ready self.now }
         requires mergeable { CanJoin first second }
-        ensures merged { IfOk result (IsUnionOf first second) }
-        ensures within { IfOk result (λ table. (functions : List FilteredFunction) (m n : ℕ)
-            → AreGroupsWithin m functions first → AreGroupsWithin n functions second
-            → AreGroupsWithin (m + n) functions table) }
-        ensures groups { IfOk result (HasGroupsOfEither first second) };
+        ensures merged { IfOk result (λ table. table ≡ both_tables first second) };
 
     /// Makes the tables of some rolls out of this table, and leaves no table in a roll where there was no memory for it.
     ///

@@ -2,7 +2,8 @@
 ghost use Rattle.std.specs.Prelude.{◌≡◌, ◌≤◌, [], All, List, IfOk, length};
 ghost use Rattle.semantics.specs.Lines.{lines};
 ghost use Rattle.semantics.specs.Groups.{Row};
-ghost use Rattle.tables.specs.Folding.{HasReadUnder, HasRoomUnder, IsTableOfKept, refused_lines_of};
+ghost use Rattle.tables.specs.Inside.Folding.{HasRead, HasRoomUnder, IsTableOfKept};
+ghost use Rattle.tables.specs.Folding.{refused_lines_of};
 
 use crate::executor::Executor;
 use crate::refusals::Refusals;
@@ -32,7 +33,7 @@ impl Folding {
     ghost use Rattle.semantics.specs.Records.{Fits};
     ghost use Rattle.semantics.specs.Groups.{Row};
     ghost use Rattle.lines.specs.Checked.{line_bytes};
-    ghost use Rattle.tables.specs.Folding.{HasReadUnder, IsTableOfKept, ReadsOneMoreUnder, TakesRecordUnder};
+    ghost use Rattle.tables.specs.Inside.Folding.{HasRead, IsTableOfKept, ReadsOneMoreUnder, TakesRecordUnder};
 
     /// No line has been read behind the records that a table has.
     fn begin(alloc: Global, table: Table) -> Folding
@@ -59,8 +60,8 @@ impl Folding {
     ) -> Result<(), AllocError>
         requires { ReadsOneMoreUnder plan.now self.old }
         ensures { OnOk result ((before : List Row) (seen : List (List ℕ))
-            → HasReadUnder plan.now before self.old seen
-            → HasReadUnder plan.now before self.new (seen ++ line_bytes line.entry ∷ [])) }
+            → HasRead plan.now before self.old seen
+            → HasRead plan.now before self.new (seen ++ line_bytes line.entry ∷ [])) }
     {
         match reader.read_line(plan.schema(), line) {
             Ok(taken) => {
@@ -131,7 +132,7 @@ pub(crate) fn read_onto(
 ) -> Result<Folding, AllocError>
     requires { HasRoomUnder plan.now table (length (lines piece.now)) }
     ensures read { IfOk result (λ folding. (before : List Row) → IsTableOfKept plan.now table before
-        → HasReadUnder plan.now before folding (lines piece.now)) }
+        → HasRead plan.now before folding (lines piece.now)) }
     ensures lines { IfOk result (λ folding. folding.lines ≡ length (lines piece.now)) }
     ensures refused { IfOk result (λ folding.
         folding.refused ≡ length (refused_lines_of plan.now.fields (lines piece.now))) }

@@ -1,7 +1,7 @@
 //! The pieces of an input as a work for a pool.
 ghost use Rattle.std.specs.Prelude.{◌≡◌, ◌≤◌, ◌<◌, ◌+◌, ◌^◌, min, All, length};
 ghost use Rattle.std.proofs.Props.{props};
-ghost use Rattle.tables.specs.Denotations.{piece_at};
+ghost use Rattle.tables.specs.Pieces.{piece_at};
 
 use crate::executor::Executor;
 use crate::partial::Partial;
@@ -70,19 +70,20 @@ impl<'a> Job<'a> {
 
 impl<'a> Work for Job<'a> {
     ghost use Rattle.tables.specs.Jobs.{input_of_job, pieces_of_job, plan_of_job, reduction_of_job};
-    ghost use Rattle.tables.specs.Denotations.{Denotation, meaning};
-    ghost use Rattle.tables.specs.Laws.{denotations_lawful};
+    ghost use Rattle.tables.specs.Laws.{results_lawful};
+    ghost use Rattle.tables.specs.Pieces.{piece_at};
+    ghost use Rattle.tables.specs.States.{PartialState};
 
     type Part = Partial;
 
-    ghost Meaning = { Denotation };
+    ghost Meaning = { PartialState };
 
-    ghost meaning = { λ part. meaning part };
+    ghost meaning = { λ part. part };
 
     ghost reduction = { λ job. reduction_of_job job };
 
-    ghost lawful = { λ job. denotations_lawful (plan_of_job job).fields (plan_of_job job).query
-        (input_of_job job) (pieces_of_job job) };
+    ghost lawful = { λ job. results_lawful (plan_of_job job)
+        (piece_at (input_of_job job) (pieces_of_job job)) };
 
     fn unit(&self) -> Result<Partial, AllocError> {
         Partial::empty(self.alloc, self.plan)
@@ -149,20 +150,21 @@ impl<'a, E: Executor> JobBy<'a, E> {
 
 impl<'a, J: Executor> Work for JobBy<'a, J> {
     ghost use Rattle.tables.specs.Jobs.{first_of_job, input_of_job, joined_job, pieces_of_job, plan_of_job, reduction_of_job_from};
-    ghost use Rattle.tables.specs.Denotations.{Denotation, meaning};
-    ghost use Rattle.tables.specs.Laws.{denotations_lawful_from};
+    ghost use Rattle.tables.specs.Laws.{results_lawful};
+    ghost use Rattle.tables.specs.Pieces.{piece_from};
+    ghost use Rattle.tables.specs.States.{PartialState};
 
     type Part = Partial;
 
-    ghost Meaning = { Denotation };
+    ghost Meaning = { PartialState };
 
-    ghost meaning = { λ part. meaning part };
+    ghost meaning = { λ part. part };
 
     ghost reduction = { λ it. reduction_of_job_from (first_of_job it) (joined_job it) };
 
-    ghost lawful = { λ it. denotations_lawful_from
-        (plan_of_job (joined_job it)).fields (plan_of_job (joined_job it)).query
-        (first_of_job it) (input_of_job (joined_job it)) (pieces_of_job (joined_job it)) };
+    ghost lawful = { λ it. results_lawful (plan_of_job (joined_job it))
+        (piece_from (first_of_job it) (input_of_job (joined_job it))
+        (pieces_of_job (joined_job it))) };
 
     fn unit(&self) -> Result<Partial, AllocError> {
         Partial::empty_by(self.job.alloc, self.job.plan, self.executor)

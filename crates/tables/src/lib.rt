@@ -22,7 +22,8 @@ pub use executor::{Executor, Parallel, Serial};
 pub use grouped::Groups;
 pub use job::{Job, JobBy};
 pub use laws::{
-    contents_law, job_law, meaning_law, members_law, order_law, records_law, sound_law,
+    contents_law, job_law, members_law, monoid_law, one_piece_law, order_law, pieces_law,
+    records_law, sound_law,
 };
 pub use partial::Partial;
 pub use rolling::{Roll, SetTable};

@@ -1,7 +1,8 @@
 //! The refused lines of all pieces by their numbers in the input.
 ghost use Rattle.std.specs.Prelude.{◌≡◌, ◌+◌, ◌<◌, ◌++◌, ◌^◌, IfOk, OnOk, All};
 ghost use Rattle.std.specs.List.Sorted.{IsPermutation, IsNonDecreasingBy};
-ghost use Rattle.tables.specs.Notes.{AreLinesBehind, AreLinesOf, IsWellNumbered, line_count, notes_in, refused_lines_from};
+ghost use Rattle.tables.specs.Inside.Notes.{AreLinesBehind, AreLinesOf};
+ghost use Rattle.tables.specs.Notes.{IsWellNumbered, line_count, notes_in, refused_lines_from};
 
 use crate::piece_refusals::PieceRefusals;
 use crate::refusals::Refusals;

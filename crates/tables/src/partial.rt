@@ -3,7 +3,8 @@ ghost use Rattle.std.specs.Prelude.{◌≡◌, ◌<◌, ◌≤◌, ◌^◌, ◌�
 ghost use Rattle.tables.specs.declared.piece_refusals.PieceRefusals.{PieceRefusals};
 ghost use Rattle.std.proofs.Props.{props};
 ghost use Rattle.tables.specs.Notes.{IsWellNumbered, line_count, notes_in};
-ghost use Rattle.tables_groups.specs.Inside.Table.{IsCounted};
+ghost use Rattle.tables.specs.Partials.{notes_of_one};
+ghost use Rattle.tables_groups.specs.Table.{IsCounted};
 
 use crate::contents::PartialContents;
 use crate::executor::{Executor, Serial};
@@ -66,8 +67,9 @@ impl Model for Partial {
     ghost use Rattle.semantics.specs.contracts.line_fault.LineFault as line_fault;
     ghost use Rattle.query_resolve.specs.contracts.function.FilteredFunction as filtered_function;
     ghost use Rattle.query_resolve.specs.Resolution.{contents};
-    ghost use Rattle.tables_groups.specs.Inside.Table.{coded_contents};
-    ghost use Rattle.tables.specs.Notes.{notes_in};
+    ghost use Rattle.tables_groups.specs.Table.{coded_contents};
+    ghost use Rattle.semantics.specs.Order.{in_order};
+    ghost use Rattle.tables.specs.Notes.{note_order, notes_in};
     ghost use Rattle.tables.specs.States.{PartialState};
 
     ghost Value = { PartialState };
@@ -82,24 +84,22 @@ impl Model for Partial {
       table = p.table;
       lines = p.lines;
       refused = p.refused;
-      notes = notes_in p.notes;
+      notes = in_order note_order (notes_in p.notes);
     } };
 }
 
 impl Partial {
     ghost use Rattle.std.specs.Prelude.{[], ◌∷◌, ◌+◌, ◌↔◌, ℕ, List, IfOk, OnOk, IsTrue};
-    ghost use Rattle.semantics.specs.Columns.{Field};
     ghost use Rattle.semantics.specs.Lines.{lines};
-    ghost use Rattle.semantics.specs.Syntax.{TreeForm};
     ghost use Rattle.semantics.specs.Groups.{Key, Row};
-    ghost use Rattle.tables.specs.Partials.{HaveOneShape, IsConcatenationOf, IsInOnePiece, IsMergeOf, IsOfSharedQueries, StandsFor, StandsForInput};
-    ghost use Rattle.tables.specs.Planned.{AreGroupingColumns, GivesGroupsOfSet, HasMembersOfFiner, HasOneMorePiece, HasRestBehind, IsFinishOf, IsPartialUnder, StandsForNone, StandsForUnder};
+    ghost use Rattle.tables.specs.Partials.{DiffersInNotes, HasOwnIndexes, HaveOneShape, IsPartialOf, StandsFor, StandsForInput, as_one, both, concatenation, none, of_piece};
+    ghost use Rattle.tables.specs.Planned.{AreGroupingColumns, GivesGroupsOfSet, HasMembersOfFiner, IsFinishOf};
     ghost use Rattle.group_states.specs.States.{entry_of};
     ghost use Rattle.query_plan.specs.Planned.{PlannedQuery};
-    ghost use Rattle.tables_groups.specs.Inside.Entries.{IsBehind, IsEntryFor};
+    ghost use Rattle.tables_groups.specs.Entries.{IsBehind, IsEntryFor};
     ghost use Rattle.tables.specs.Contents.{DiffersInGroups, HasGroupBehind, HasMembersWithin, HasRefusals, HasRoomFor, IsTypedEntryUnder, contents_of, groups_in};
     ghost use Rattle.semantics.specs.Parts.{contents_over};
-    ghost use Rattle.tables.specs.Sound.{IsSoundUnder, IsSoundWhere, IsSoundWhereBoth};
+    ghost use Rattle.tables.specs.Sound.{IsSoundUnder};
     ghost use Rattle.values.specs.Datum.{data_of};
     ghost use Rattle.tables.specs.Pieces.{IndexedPiece, all_lines, records_of, refused_lines_within};
 
@@ -111,7 +111,7 @@ impl Partial {
     ///
     /// `AllocError` where there is no memory for it.
     pub fn empty(alloc: Global, plan: &Plan) -> Result<Partial, AllocError>
-        ensures stands { IfOk result (StandsForNone plan.now) }
+        ensures { IfOk result (λ partial. partial ≡ none plan.now) }
     {
         Partial::empty_by(alloc, plan, &Serial)
     }
@@ -129,7 +129,7 @@ impl Partial {
         plan: &Plan,
         executor: &E,
     ) -> Result<Partial, AllocError>
-        ensures stands { IfOk result (StandsForNone plan.now) }
+        ensures { IfOk result (λ partial. partial ≡ none plan.now) }
     {
         let shape = Shape::of(alloc, plan)?;
         let table = empty_table(alloc, plan, executor)?;
@@ -159,8 +159,8 @@ impl Partial {
         piece: &[u8],
     ) -> Result<Partial, AllocError>
         requires { length piece.now < 2 ^ 63 }
-        ensures stands { IfOk result (λ partial.
-            StandsForUnder plan.now partial (record { index = index; bytes = piece.now } ∷ [])) }
+        ensures { IfOk result (λ partial.
+            partial ≡ of_piece plan.now (record { index = index; bytes = piece.now })) }
     {
         Partial::fold_piece_by(alloc, plan, &Serial, index, piece)
     }
@@ -180,8 +180,8 @@ impl Partial {
         piece: &[u8],
     ) -> Result<Partial, AllocError>
         requires { length piece.now < 2 ^ 63 }
-        ensures stands { IfOk result (λ partial.
-            StandsForUnder plan.now partial (record { index = index; bytes = piece.now } ∷ [])) }
+        ensures { IfOk result (λ partial.
+            partial ≡ of_piece plan.now (record { index = index; bytes = piece.now })) }
     {
         let shape = Shape::of(alloc, plan)?;
         let empty = piece_table(alloc, plan, executor)?;
@@ -222,11 +222,10 @@ impl Partial {
     ///
     /// `AllocError` where there is no memory for it; what was there is given up then.
     pub fn fold_onto(self, plan: &Plan, index: u32, piece: &[u8]) -> Result<Partial, AllocError>
-        requires of_plan { IsPartialUnder plan.now self }
+        requires of_plan { IsPartialOf plan.now self }
         requires few { self.lines + length (lines piece.now) < 2 ^ 63 }
-        ensures stands { IfOk result
-            (HasOneMorePiece plan.now self (record { index = index; bytes = piece.now })) }
-        ensures of_plan { IfOk result (IsPartialUnder plan.now) }
+        ensures { IfOk result (λ partial. partial
+            ≡ both self (of_piece plan.now (record { index = index; bytes = piece.now }))) }
     {
         let Partial {
             alloc,
@@ -255,8 +254,8 @@ impl Partial {
     /// The number of all lines of the pieces, refused ones among them, below 2^63.
     pub fn lines(&self) -> u64
         ensures lines { result ≡ self.now.lines }
-        ensures of_pieces { (fields : List Field) (q : TreeForm) (pieces : List IndexedPiece)
-            → StandsFor fields q self.now pieces → result ≡ length (all_lines pieces) }
+        ensures of_pieces { (plan : PlannedQuery) (pieces : List IndexedPiece)
+            → StandsFor plan self.now pieces → result ≡ length (all_lines pieces) }
         ensures few { result < 2 ^ 63 }
     {
         self.lines
@@ -265,9 +264,9 @@ impl Partial {
     /// The number of all refused lines of the pieces, at most that of all lines.
     pub fn refused(&self) -> u64
         ensures refused { result ≡ self.now.refused }
-        ensures of_pieces { (fields : List Field) (q : TreeForm) (pieces : List IndexedPiece)
-            → StandsFor fields q self.now pieces
-            → result ≡ length (refused_lines_within fields pieces) }
+        ensures of_pieces { (plan : PlannedQuery) (pieces : List IndexedPiece)
+            → StandsFor plan self.now pieces
+            → result ≡ length (refused_lines_within plan.fields pieces) }
         ensures fewer { result ≤ self.now.lines }
     {
         self.refused
@@ -280,9 +279,9 @@ impl Partial {
     /// one of that and one of `SELECT COUNT(*) FROM lines GROUP BY kind`.
     pub fn same_shape(&self, other: &Partial) -> bool
         ensures same { IsTrue result ↔ HaveOneShape self.now other.now }
-        ensures of_one_query { (fields : List Field) (q : TreeForm)
+        ensures of_one_query { (plan : PlannedQuery)
             (pieces more : List IndexedPiece)
-            → StandsFor fields q self.now pieces → StandsFor fields q other.now more
+            → StandsFor plan self.now pieces → StandsFor plan other.now more
             → IsTrue result }
     {
         self.shape.is_same(&other.shape)
@@ -300,9 +299,7 @@ impl Partial {
     pub fn merge(self, other: Partial) -> Result<Partial, AllocError>
         requires one_shape { HaveOneShape self other }
         requires few { self.lines + other.lines < 2 ^ 63 }
-        ensures stands { IfOk result (IsMergeOf self other) }
-        ensures of_plan { IfOk result (IsOfSharedQueries self other) }
-        ensures sound { IfOk result (IsSoundWhereBoth self other) }
+        ensures { IfOk result (λ partial. partial ≡ both self other) }
     {
         self.merge_by(&Serial, other)
     }
@@ -319,9 +316,7 @@ impl Partial {
         requires ready { E.ready executor.now }
         requires one_shape { HaveOneShape self other }
         requires few { self.lines + other.lines < 2 ^ 63 }
-        ensures stands { IfOk result (IsMergeOf self other) }
-        ensures of_plan { IfOk result (IsOfSharedQueries self other) }
-        ensures sound { IfOk result (IsSoundWhereBoth self other) }
+        ensures { IfOk result (λ partial. partial ≡ both self other) }
     {
         let Partial {
             alloc,
@@ -367,9 +362,10 @@ impl Partial {
     pub fn follow(self, rest: Partial) -> Result<Partial, AllocError>
         requires one_shape { HaveOneShape self rest }
         requires few { self.lines + rest.lines < 2 ^ 63 }
-        ensures stands { IfOk result (IsConcatenationOf self rest) }
-        ensures sound { IfOk result (IsSoundWhereBoth self rest) }
-        ensures lines { IfOk result (λ whole. whole.lines ≡ self.lines + rest.lines) }
+        ensures stands { HasOwnIndexes self → HasOwnIndexes rest
+            → IfOk result (λ whole. whole ≡ concatenation self rest) }
+        // In whatever order refused lines of one index are numbered.
+        ensures groups { IfOk result (DiffersInNotes (both self rest)) }
     {
         self.follow_by(&Serial, rest)
     }
@@ -386,9 +382,10 @@ impl Partial {
         requires ready { E.ready executor.now }
         requires one_shape { HaveOneShape self rest }
         requires few { self.lines + rest.lines < 2 ^ 63 }
-        ensures stands { IfOk result (IsConcatenationOf self rest) }
-        ensures sound { IfOk result (IsSoundWhereBoth self rest) }
-        ensures lines { IfOk result (λ whole. whole.lines ≡ self.lines + rest.lines) }
+        ensures stands { HasOwnIndexes self → HasOwnIndexes rest
+            → IfOk result (λ whole. whole ≡ concatenation self rest) }
+        // In whatever order refused lines of one index are numbered.
+        ensures groups { IfOk result (DiffersInNotes (both self rest)) }
     {
         let Partial {
             alloc,
@@ -442,9 +439,10 @@ impl Partial {
     ///
     /// `AllocError` where there is no memory for it; what was there is given up then.
     pub fn fold_behind(self, plan: &Plan, rest: &[u8]) -> Result<Partial, AllocError>
-        requires of_plan { IsPartialUnder plan.now self }
+        requires of_plan { IsPartialOf plan.now self }
         requires few { self.lines + length (lines rest.now) < 2 ^ 63 }
-        ensures stands { IfOk result (HasRestBehind plan.now self rest.now) }
+        ensures stands { HasOwnIndexes self → IfOk result (λ whole. whole
+            ≡ concatenation self (of_piece plan.now (record { index = 0; bytes = rest.now }))) }
     {
         let Partial {
             alloc,
@@ -486,12 +484,10 @@ impl Partial {
     ///
     /// `AllocError` where there is no memory for it; what was there is given up then.
     pub fn in_one_piece(self) -> Result<Partial, AllocError>
-        ensures stands { IfOk result (IsInOnePiece self) }
-        ensures shape { IfOk result (HaveOneShape self) }
-        ensures lines { IfOk result (λ partial. partial.lines ≡ self.lines) }
-        ensures refused { IfOk result (λ partial. partial.refused ≡ self.refused) }
+        ensures stands { HasOwnIndexes self → IfOk result (λ partial. partial ≡ as_one self) }
+        // In whatever order refused lines of one index are numbered.
+        ensures groups { IfOk result (DiffersInNotes self) }
         ensures fewer { IfOk result (λ partial. partial.refused ≤ partial.lines) }
-        ensures sound { IfOk result (IsSoundWhere self) }
     {
         let Partial {
             alloc,
@@ -582,7 +578,7 @@ impl Partial {
         requires sound { IsSoundUnder plan.now self.now }
         requires among { AreGroupingColumns plan.now set.now }
         ensures groups { IfOk result (λ groups. (pieces : List IndexedPiece)
-            → StandsForUnder plan.now self.now pieces
+            → StandsFor plan.now self.now pieces
             → GivesGroupsOfSet plan.now set.now groups.items (records_of plan.now.fields pieces)) }
         // The members of a key are those of all keys of the grouping columns that have its values, joined.
         ensures members { OnOk result ((rows : List Row) (key : Key)
@@ -602,9 +598,9 @@ impl Partial {
     ///
     /// `AllocError` where there is no memory for it; the result is given up then.
     pub fn into_contents(self) -> Result<PartialContents, AllocError>
-        ensures { IfOk result (λ contents. (fields : List Field) (q : TreeForm) (input : List ℕ)
-            → StandsForInput fields q self input
-            → contents_of contents ≡ contents_over fields q input) }
+        ensures { IfOk result (λ contents. (plan : PlannedQuery) (input : List ℕ)
+            → StandsForInput plan self input
+            → contents_of contents ≡ contents_over plan.fields plan.query input) }
     {
         let Partial {
             alloc,
@@ -727,16 +723,13 @@ fn one_note(alloc: Global, note: PieceRefusals) -> Result<Vec<PieceRefusals>, Al
     Ok(notes)
 }
 
-/// The notes of an input of so many lines as one piece, by its refused lines; of no line there is no note.
+/// The notes of so many lines as one piece, of index 0, with these refused ones; of no line there is none.
 fn note_if_any(
     alloc: Global,
     lines: u64,
     refused: Refusals,
 ) -> Result<Vec<PieceRefusals>, AllocError>
-    ensures none { lines ≡ 0 → IfOk result (λ notes. notes.items ≡ []) }
-    ensures some { 0 < lines
-        → IfOk result (λ notes. (note : PieceRefusals) × (note.index ≡ 0) × (note.lines ≡ lines)
-        × (note.refused ≡ refused) × (notes.items ≡ note ∷ [])) }
+    ensures { IfOk result (λ notes. notes_in notes ≡ notes_of_one lines refused) }
 {
     if lines == 0 {
         return Ok(Vec::new(alloc));

@@ -1,6 +1,6 @@
 //! Refused lines by their numbers, where neighbours with one fault are kept as one.
 ghost use Rattle.std.specs.Prelude.{◌≡◌, ◌+◌, ◌<◌, ◌++◌, ◌^◌, ◌∷◌, [], All, IsTrue, OnOk, false, map};
-ghost use Rattle.tables.specs.Refusals.{lines_of_run, lines_of_runs};
+ghost use Rattle.tables.specs.Inside.Refusals.{lines_of_run, lines_of_runs};
 
 use lines::LineFault;
 use std::alloc::{AllocError, Global};
@@ -28,7 +28,7 @@ impl Model for Refusals {
     ghost use Rattle.std.specs.Coded.{codes};
     ghost use Rattle.semantics.specs.contracts.line_fault.LineFault as line_fault;
     ghost use Rattle.semantics.specs.declared.line_fault.LineFault.{LineFault};
-    ghost use Rattle.tables.specs.Refusals.{lines_of_runs};
+    ghost use Rattle.tables.specs.Inside.Refusals.{lines_of_runs};
 
     ghost Value = { List (ℕ × LineFault) };
 

@@ -5,9 +5,10 @@ ghost use Rattle.std.specs.List.Sorted.{IsPermutation};
 ghost use Rattle.query_resolve.specs.Resolution.{contents};
 ghost use Rattle.query_resolve.specs.declared.function.FilteredFunction.{FilteredFunction};
 ghost use Rattle.tables_groups.specs.Rolled.{AreAmong};
-ghost use Rattle.tables_groups.specs.Inside.Table.{HasFewRecords};
+ghost use Rattle.tables_groups.specs.Table.{HasFewRecords};
 ghost use Rattle.tables.specs.Properties.{HasProperty, Property};
-ghost use Rattle.tables.specs.SetTables.{AreGroupsOfRolls, HasFiner, HasGroupsOf, HasRolled, HaveFiner, HaveProperty, HavePropertyWhereMade, KeepsOthers, NoneHasIndex, StandsAtIndex, set_of_roll, sets_of_rolls, sets_of_tables};
+ghost use Rattle.tables.specs.Inside.SetTables.{AreGroupsOfRolls, HasFiner, HasGroupsOf, HaveFiner, HaveProperty, HavePropertyWhereMade, KeepsOthers, NoneHasIndex, StandsAtIndex, sets_of_rolls, sets_of_tables};
+ghost use Rattle.tables.specs.SetTables.{HasRolled, set_of_roll};
 
 use crate::executor::Executor;
 use query_plan::FilteredFunction;

@@ -30,7 +30,7 @@ impl Shape {
     ghost use Rattle.semantics.specs.Sets.{sets_of};
     ghost use Rattle.query_resolve.specs.Functions.{indexed_functions};
     ghost use Rattle.tables.specs.Functions.{filter_texts};
-    ghost use Rattle.tables.specs.Shapes.{AreSameShapes};
+    ghost use Rattle.tables.specs.Inside.Shapes.{AreSameShapes};
 
     /// The shape of a plan.
     pub(crate) fn of(alloc: Global, plan: &Plan) -> Result<Shape, AllocError>
@@ -39,7 +39,7 @@ impl Shape {
         ensures functions { IfOk result (λ shape.
             shape.functions.items ≡ indexed_functions plan.now.fields plan.now.query) }
         ensures filters { IfOk result (λ shape.
-            map string_bytes shape.filters.items ≡ filter_texts plan.now.fields plan.now.query) }
+            map string_bytes shape.filters.items ≡ filter_texts plan.now) }
     {
         let sets = copy_sets(alloc, plan.sets())?;
         let functions = copy_functions(alloc, plan.set_functions())?;

@@ -5,21 +5,21 @@ use Rattle.semantics.specs.declared.function.ColumnFunction.{ColumnFunction}
 use Rattle.semantics.specs.declared.function.ColumnFunction.TheVariants as function
 use Rattle.semantics.specs.Groups.{Row, Key, members, same_key}
 use Rattle.semantics.specs.Aggregates.{column_values, column_numbers, AggregateFunction, total, least, greatest}
-use Rattle.tables_groups.specs.Inside.Values.{set_of}
-use Rattle.tables_groups.specs.Inside.Accumulator.{counted, summed, averaged, collected, lowest, highest, accumulator_state, state_over, state_counted, state_by, joint_state}
-use Rattle.tables_groups.specs.Inside.Group.{group_state, joint_states, joint_group}
+use Rattle.tables_groups.specs.Values.{set_of}
+use Rattle.tables_groups.specs.Accumulator.{counted, summed, averaged, collected, lowest, highest, accumulator_state, state_over, state_counted, state_by, joint_state}
+use Rattle.tables_groups.specs.Group.{group_state, joint_states, joint_group}
 use Rattle.tables_groups.specs.Bags.{SameBag, weigh}
-use Rattle.tables_groups.specs.Inside.Table.{Contents, IsTableOf, joint_option}
+use Rattle.tables_groups.specs.Table.{Contents, IsTableOf, joint_option}
 use Rattle.tables_groups.proofs.Bags.{weigh-append}
 use Rattle.tables_groups.proofs.Order.{same_key-Decides}
 use Rattle.tables_groups.proofs.Firsts.{less-flip, greater-flip}
 use Rattle.tables_groups.proofs.Sets.{union-flip}
 use Rattle.tables_groups.proofs.Meaning.{same_state, has_key, group_at, group_at-append}
 
-plus_flip : (m n : ℕ) → m + n ≡ n + m
+pub plus_flip : (m n : ℕ) → m + n ≡ n + m
 plus_flip m n = omega arith
 
-sum_flip : (s t : ℤ) → s +ℤ t ≡ t +ℤ s
+pub sum_flip : (s t : ℤ) → s +ℤ t ≡ t +ℤ s
 sum_flip s t = omega (arith, ints)
 
 state_over-flip : (f : ColumnFunction) (l m : List Row) → joint_state (state_over f l) (state_over f m) ≡ joint_state (state_over f m) (state_over f l)

@@ -13,9 +13,11 @@ use lib.Dec.{T}
 use Rattle.semantics.specs.Groups.{Key, key_order, same_key}
 use Rattle.query_resolve.specs.declared.function.FilteredFunction.{FilteredFunction}
 use Rattle.semantics.specs.GroupStates.{EntryForm, FunctionState}
-use Rattle.tables_groups.specs.Inside.Entries.{AreStatesFor, CountsEntry, IsBehind, IsEntryFor, entry_at, kept_group, kept_states, table_entries}
-use Rattle.tables_groups.specs.Inside.Group.{GroupState}
-use Rattle.tables_groups.specs.Inside.Table.{Contents, IsFitting, IsPut, joint_option, lines_of}
+use Rattle.tables_groups.specs.Entries.{AreStatesFor, CountsEntry, IsBehind, IsEntryFor, entry_at, table_entries}
+use Rattle.tables_groups.specs.Inside.Entries.{kept_group, kept_states}
+use Rattle.tables_groups.specs.Group.{GroupState}
+use Rattle.tables_groups.specs.Table.{Contents, IsFitting, joint_option, lines_of}
+use Rattle.tables_groups.specs.Inside.Table.{IsPut}
 use Rattle.tables_groups.proofs.Counted.{Grows, grown-lines}
 use Rattle.tables_groups.proofs.GroupsLaw.{none-found}
 use Rattle.tables_groups.proofs.Listing.{in-order}

@@ -12,7 +12,7 @@ use Rattle.std.specs.List.Sorted.{IsStrictlySortedBy}
 use Rattle.std.specs.Ordering.{eq_by_cmp, is_eq, is_gt, is_lt, ordering_reverse}
 use lib.Dec.{T}
 use Rattle.semantics.specs.Order.{insertion, in_order}
-use Rattle.tables_groups.specs.Inside.Entries.{IsAscending}
+use Rattle.tables_groups.specs.Entries.{IsAscending}
 
 -- ---- how two things stand to each other
 

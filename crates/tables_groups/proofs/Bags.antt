@@ -2,6 +2,7 @@
 use Rattle.std.proofs.Common.{◌≡◌, ◌+◌, ℕ, Bool, true, false, cond, List, [], ◌∷◌, ◌++◌, map, filter, length, refl, sym, ap, ◌∙◌, arith}
 use Rattle.std.proofs.lemmas.List.Recursion.{is_sum_by}
 use Rattle.std.proofs.lemmas.List.Sorted.{sum_by-IsPermutation}
+use Rattle.std.specs.List.{flat_map}
 use Rattle.std.specs.List.Sorted.{IsPermutation}
 use Rattle.tables_groups.specs.Bags.{SameBag, weigh}
 
@@ -12,6 +13,19 @@ weigh-append w (x ∷ xs) ys = let h = weigh-append w xs ys in omega (arith, h)
 pub weigh-map : {X Y : Type 0} (w : Y → ℕ) (f : X → Y) (xs : List X) → weigh w (map f xs) ≡ weigh (λ x. w (f x)) xs
 weigh-map w f [] = refl
 weigh-map w f (x ∷ xs) = ap (λ n. w (f x) + n) (weigh-map w f xs)
+
+pub weigh-flat_map : {X Y : Type 0} (w : Y → ℕ) (f : X → List Y) (xs : List X) → weigh w (flat_map f xs) ≡ weigh (λ x. weigh w (f x)) xs
+weigh-flat_map w f [] = refl
+weigh-flat_map w f (x ∷ xs) = weigh-append w (f x) (flat_map f xs) ∙ ap (λ n. weigh w (f x) + n) (weigh-flat_map w f xs)
+
+pub bag-append : {X : Type 0} (xs ys us vs : List X) → SameBag xs ys → SameBag us vs → SameBag (xs ++ us) (ys ++ vs)
+bag-append xs ys us vs a b = λ w. let p = weigh-append w xs us in let q = weigh-append w ys vs in let h = a w in let k = b w in omega (arith, p, q, h, k)
+
+pub bag-map : {X Y : Type 0} (f : X → Y) (xs ys : List X) → SameBag xs ys → SameBag (map f xs) (map f ys)
+bag-map f xs ys same = λ w. weigh-map w f xs ∙ same (λ x. w (f x)) ∙ sym (weigh-map w f ys)
+
+pub bag-flat_map : {X Y : Type 0} (f : X → List Y) (xs ys : List X) → SameBag xs ys → SameBag (flat_map f xs) (flat_map f ys)
+bag-flat_map f xs ys same = λ w. weigh-flat_map w f xs ∙ same (λ x. weigh w (f x)) ∙ sym (weigh-flat_map w f ys)
 
 -- where each thing weighs one
 pub ones : {X : Type 0} (xs : List X) → weigh (λ _. 1) xs ≡ length xs

@@ -13,7 +13,7 @@ use Rattle.sort_keys.proofs.Told.{AreBytes, Told, alike, less, greater, parts-te
 use Rattle.sort_keys.proofs.Values.{Stands, stands, lower, under, over, upper, bytes-both, values-bytes, values-tell}
 use Rattle.tables_groups.specs.declared.packed_key.PackedKey.{PackedKey}
 use Rattle.tables_groups.specs.Inside.Keyed.{sort_code}
-use Rattle.tables_groups.specs.Inside.Keys.{key_in}
+use Rattle.tables_groups.specs.Keys.{key_in}
 
 -- ---- codes behind which a 0 stands
 

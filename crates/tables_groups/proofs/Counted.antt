@@ -10,10 +10,13 @@ use Rattle.semantics.specs.Aggregates.{AggregateFunction}
 use Rattle.tables_groups.specs.Bags.{weigh}
 use Rattle.tables_groups.specs.Functions.{aggregate_of}
 use Rattle.tables_groups.specs.declared.packed_key.PackedKey.{PackedKey}
-use Rattle.tables_groups.specs.Inside.Keys.{key_in}
-use Rattle.tables_groups.specs.Inside.Accumulator.{accumulator_state, no_state}
-use Rattle.tables_groups.specs.Inside.Group.{GroupState, group_state, joint_group, no_group}
-use Rattle.tables_groups.specs.Inside.Table.{AreGroupsWithin, Contents, HasGroupsOfBoth, IsCounted, IsEnlarged, IsFittingNew, IsGroupWithin, IsPut, IsTableOf, IsTableUnder, KeepsCount, TakesEach, contents_of, group_with_entries, group_with_members, joint_option, lines_of}
+use Rattle.tables_groups.specs.Keys.{key_in}
+use Rattle.tables_groups.specs.Accumulator.{accumulator_state}
+use Rattle.tables_groups.specs.Inside.Accumulator.{no_state}
+use Rattle.tables_groups.specs.Group.{GroupState, group_state, joint_group}
+use Rattle.tables_groups.specs.Inside.Group.{no_group}
+use Rattle.tables_groups.specs.Inside.Table.{AreGroupsWithin, IsEnlarged, IsFittingNew, IsGroupWithin, IsPut, TakesEach, group_with_entries, group_with_members}
+use Rattle.tables_groups.specs.Table.{Contents, HasGroupsOfBoth, IsCounted, IsTableOf, IsTableUnder, KeepsCount, contents_of, joint_option, lines_of}
 use Rattle.tables_groups.proofs.Bags.{ones, weigh-append}
 use Rattle.tables_groups.proofs.Covering.{hit, missed, not_swapped, others, spread, spread-none}
 use Rattle.tables_groups.proofs.Distinct.{distinct-shown}

@@ -1,11 +1,11 @@
 -- Entries of which no two have one key.
 use Rattle.tables_groups.specs.declared.packed_key.PackedKey.{PackedKey}
-use Rattle.tables_groups.specs.Inside.Keys.{key_in}
+use Rattle.tables_groups.specs.Keys.{key_in}
 use Rattle.std.proofs.Common.{◌≡◌, false, [], ◌∷◌, map, sym, ◌∙◌}
 use Rattle.std.specs.List.{IsDistinct, AllByRecursion}
 use Rattle.std.specs.Map.{keys_of}
 use Rattle.semantics.specs.Groups.{same_key}
-use Rattle.tables_groups.specs.Inside.Table.{entries_by_key}
+use Rattle.tables_groups.specs.Table.{entries_by_key}
 use Rattle.tables_groups.proofs.Order.{key_eq-ties}
 use Rattle.tables_groups.proofs.Entries.{Entries, key_eq}
 

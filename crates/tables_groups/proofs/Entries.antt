@@ -1,6 +1,6 @@
 -- The entries of a hashed map from keys to groups, and what is found in them by a key.
 use Rattle.tables_groups.specs.declared.packed_key.PackedKey.{PackedKey}
-use Rattle.tables_groups.specs.Inside.Keys.{key_in}
+use Rattle.tables_groups.specs.Keys.{key_in}
 use Rattle.std.proofs.Common.{Result, Ok, Err, OnOk, OnErr, ◌≡◌, ◌+◌, IfSome, Bool, length, add-one, arith, true, false, cond, List, [], ◌∷◌, Option, Some, None, refl, sym, ap, subst, ◌∙◌}
 use Rattle.std.proofs.lemmas.List.{length-map}
 use Rattle.std.specs.Cmp.{eq_by_cmp_equiv}
@@ -11,11 +11,13 @@ use Rattle.std.specs.List.{IsDistinct}
 use Rattle.query_resolve.specs.declared.function.FilteredFunction.{FilteredFunction}
 use Rattle.semantics.specs.Groups.{Key, key_order, same_key}
 use Rattle.tables_groups.specs.Inside.Accumulator.{no_state}
-use Rattle.tables_groups.specs.Inside.Group.{GroupState, no_group}
+use Rattle.tables_groups.specs.Group.{GroupState}
+use Rattle.tables_groups.specs.Inside.Group.{no_group}
 pub use Rattle.tables_groups.specs.Inside.Keys.{key_eq}
 use Rattle.tables_groups.specs.declared.part.Part.{Part}
 use Rattle.tables_groups.specs.declared.part.Part.TheVariants as taken
-use Rattle.tables_groups.specs.Inside.Table.{Contents, IsPut, IsFitting, IsTaken, IsWithPart, group_with_part, joint_option, entries_by_key, contents_of}
+use Rattle.tables_groups.specs.Table.{Contents, IsFitting, joint_option, entries_by_key, contents_of}
+use Rattle.tables_groups.specs.Inside.Table.{IsPut, IsTaken, IsWithPart, group_with_part}
 use Rattle.tables_groups.proofs.Order.{key_total, same_key-Decides, key_eq-ties}
 
 abbrev pub Entries : Type 0

@@ -12,12 +12,12 @@ use Rattle.semantics.specs.Order.{in_order}
 use Rattle.query_resolve.specs.declared.function.FilteredFunction.{FilteredFunction}
 use Rattle.semantics.specs.GroupStates.{entries_over, entry_over, EntryForm}
 use Rattle.tables_groups.specs.Functions.{aggregates_of}
-use Rattle.tables_groups.specs.Inside.Entries.{entry_at, table_entries}
-use Rattle.tables_groups.specs.Inside.Group.{GroupState, group_state}
-use Rattle.tables_groups.specs.Inside.Table.{Contents, IsTableOf, IsTableUnder}
-use Rattle.tables_groups.specs.Inside.Typed.{AreStatesOf, IsTypedTable}
+use Rattle.tables_groups.specs.Entries.{entry_at, table_entries}
+use Rattle.tables_groups.specs.Group.{GroupState, group_state}
+use Rattle.tables_groups.specs.Table.{Contents, IsTableOf, IsTableUnder, group_over}
+use Rattle.tables_groups.specs.Typed.{AreStatesOf, IsTypedTable}
 use Rattle.tables_groups.proofs.Ascending.{any-in_order, in_order-sorted}
-use Rattle.tables_groups.proofs.GroupsLaw.{firsts, found, group, keys-distinct}
+use Rattle.tables_groups.proofs.GroupsLaw.{firsts, found, keys-distinct}
 use Rattle.tables_groups.proofs.Listing.{in-order}
 use Rattle.tables_groups.proofs.Order.{key_total}
 use Rattle.tables_groups.proofs.Plain.{plain-states, states-told}
@@ -31,22 +31,22 @@ keys-sorted : (set : List ℕ) (rows : List Row) → IsStrictlySortedBy key_orde
 keys-sorted set rows = in_order-sorted key_total (keys set rows) (keys-distinct set rows)
 
 -- what is found at a key among the groups of all keys in order
-found-in_order : (set : List ℕ) (fs : List AggregateFunction) (rows : List Row) (q : Key) → fin.find key_order q (map (group set fs rows) (keys_in_order set rows))
+found-in_order : (set : List ℕ) (fs : List AggregateFunction) (rows : List Row) (q : Key) → fin.find key_order q (map (group_over set fs rows) (keys_in_order set rows))
     ≡ cond (list_any (same_key q) (keys set rows)) (Some (group_state fs (members set q rows))) None
 found-in_order set fs rows q =
     found (λ k. group_state fs (members set k rows)) q (keys_in_order set rows)
     ∙ ap (λ b. cond b (Some (group_state fs (members set q rows))) None) (any-in_order key_order (same_key q) (keys set rows))
 
-entries-records : (set : List ℕ) (fs : List AggregateFunction) (t : Contents) (rows : List Row) → IsTableOf set fs t rows → map (group set fs rows) (keys_in_order set rows) ≡ fin.entries t
+entries-records : (set : List ℕ) (fs : List AggregateFunction) (t : Contents) (rows : List Row) → IsTableOf set fs t rows → map (group_over set fs rows) (keys_in_order set rows) ≡ fin.entries t
 entries-records set fs t rows h =
     let ks = keys_in_order set rows in
-    in-order t (map (group set fs rows) ks) (subst (λ (xs : List Key). IsStrictlySortedBy key_order xs) (firsts set fs rows ks) (keys-sorted set rows))
+    in-order t (map (group_over set fs rows) ks) (subst (λ (xs : List Key). IsStrictlySortedBy key_order xs) (firsts set fs rows ks) (keys-sorted set rows))
     (λ q. found-in_order set fs rows q ∙ sym (h q))
 
-entry-of : (set : List ℕ) (fs : List AggregateFunction) (rows : List Row) (k : Key) → entry_at (group set fs rows k) ≡ entry_over set fs rows k
+entry-of : (set : List ℕ) (fs : List AggregateFunction) (rows : List Row) (k : Key) → entry_at (group_over set fs rows k) ≡ entry_over set fs rows k
 entry-of set fs rows k = λ i. record { key = k; members = (entry_over set fs rows k).members; states = plain-states fs (members set k rows) i }
 
-entries-of : (set : List ℕ) (fs : List AggregateFunction) (rows : List Row) (ks : List Key) → map entry_at (map (group set fs rows) ks) ≡ map (entry_over set fs rows) ks
+entries-of : (set : List ℕ) (fs : List AggregateFunction) (rows : List Row) (ks : List Key) → map entry_at (map (group_over set fs rows) ks) ≡ map (entry_over set fs rows) ks
 entries-of set fs rows [] = refl
 entries-of set fs rows (k ∷ ks) = λ i. entry-of set fs rows k i ∷ entries-of set fs rows ks i
 
@@ -80,7 +80,7 @@ typed-each fields set functions t (e ∷ es) typed all = (
 
 -- the group that has an entry's plain form
 group-told : (fields : List Field) (set : List ℕ) (functions : List FilteredFunction) (filters : List (Row → Bool)) (rows : List Row) (e : Key × GroupState) (k : Key)
-    → AreStatesOf fields functions e.1.parts → entry_at e ≡ entry_over set (aggregates_of filters functions) rows k → e ≡ group set (aggregates_of filters functions) rows k
+    → AreStatesOf fields functions e.1.parts → entry_at e ≡ entry_over set (aggregates_of filters functions) rows k → e ≡ group_over set (aggregates_of filters functions) rows k
 group-told fields set functions filters rows e k typed is =
     let key : e.0 ≡ k = ap (λ (x : EntryForm). x.key) is in
     let lines = ap (λ (x : EntryForm). x.members) is in
@@ -88,7 +88,7 @@ group-told fields set functions filters rows e k typed is =
     λ i. (key i, record { lines = lines i; parts = parts i })
 
 groups-told : (fields : List Field) (set : List ℕ) (functions : List FilteredFunction) (filters : List (Row → Bool)) (rows : List Row) (es : List (Key × GroupState)) (ks : List Key)
-    → AllByRecursion (λ e. AreStatesOf fields functions e.1.parts) es → map entry_at es ≡ map (entry_over set (aggregates_of filters functions) rows) ks → es ≡ map (group set (aggregates_of filters functions) rows) ks
+    → AllByRecursion (λ e. AreStatesOf fields functions e.1.parts) es → map entry_at es ≡ map (entry_over set (aggregates_of filters functions) rows) ks → es ≡ map (group_over set (aggregates_of filters functions) rows) ks
 groups-told fields set functions filters rows [] [] typed is = refl
 groups-told fields set functions filters rows [] (k ∷ ks) typed is = cc
 groups-told fields set functions filters rows (e ∷ es) [] typed is = cc

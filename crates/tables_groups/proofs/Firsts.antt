@@ -11,7 +11,7 @@ use Rattle.values.specs.Datum.{datum_of}
 use Rattle.values.specs.declared.value.Value.{Value}
 use Rattle.values.specs.declared.value.Value.TheVariants as v
 use Rattle.semantics.specs.Aggregates.{is_present, present, least, greatest}
-use Rattle.tables_groups.specs.Inside.Values.{falling_order, first_by}
+use Rattle.tables_groups.specs.Values.{falling_order, first_by}
 use Rattle.tables_groups.proofs.Order.{value_total, value_antisymmetric}
 
 flipped : (r : Ordering) → is_lt (ordering_reverse r) ≡ is_gt r

@@ -10,9 +10,11 @@ use Rattle.semantics.specs.declared.function.ColumnFunction.{ColumnFunction}
 use Rattle.semantics.specs.declared.function.ColumnFunction.TheVariants as function
 use Rattle.semantics.specs.Groups.{Row, Key, project, key_order, same_key, keys, members}
 use Rattle.semantics.specs.Aggregates.{column_numbers, column_values, AggregateFunction, plain, agg, value_over, filtered_rows, total, sum_of, average_of}
-use Rattle.tables_groups.specs.Inside.Accumulator.{summary, accumulator_state, state_over, state_counted, state_by, summed, averaged}
-use Rattle.tables_groups.specs.Inside.Group.{GroupState, group_state, state_summary}
-use Rattle.tables_groups.specs.Inside.Table.{Contents, IsTableOf}
+use Rattle.tables_groups.specs.Inside.Accumulator.{summary}
+use Rattle.tables_groups.specs.Accumulator.{accumulator_state, state_over, state_counted, state_by, summed, averaged}
+use Rattle.tables_groups.specs.Group.{GroupState, group_state}
+use Rattle.tables_groups.specs.Inside.Group.{state_summary}
+use Rattle.tables_groups.specs.Table.{Contents, IsTableOf, group_over, table_of}
 use Rattle.semantics.specs.Found.{group_summary}
 use Rattle.tables_groups.specs.GroupSummaries.{group_summaries}
 use Rattle.tables_groups.specs.Bags.{SameBag, weigh}
@@ -104,14 +106,16 @@ found g q (k ∷ ks) = ap (cond (same_key q k) (Some (g k))) (found g q ks)
       | false ↦ λ e. refl
     ] refl
 
--- what a table has of a key
-abbrev pub group : List ℕ → List AggregateFunction → List Row → Key → Key × GroupState
-group set fs rows k = (k, group_state fs (members set k rows))
+pub table_of-is : (set : List ℕ) (fs : List AggregateFunction) (rows : List Row) → IsTableOf set fs (table_of set fs rows) rows
+table_of-is set fs rows = λ key.
+    fin.get-from_entries key_total (map (group_over set fs rows) (keys set rows)) key
+    ∙ found (λ k. group_state fs (members set k rows)) key (keys set rows)
 
-table-is : (set : List ℕ) (fs : List AggregateFunction) (t : Contents) (rows : List Row) → IsTableOf set fs t rows → t ≡ fin.from_entries (map (group set fs rows) (keys set rows))
+-- and no other table is
+pub table-is : (set : List ℕ) (fs : List AggregateFunction) (t : Contents) (rows : List Row) → IsTableOf set fs t rows → t ≡ table_of set fs rows
 table-is set fs t rows h = fin.same_map key_total key_antisymmetric _ _ (λ q.
     h q ∙ sym (found (λ k. group_state fs (members set k rows)) q (keys set rows))
-    ∙ sym (fin.get-from_entries key_total (map (group set fs rows) (keys set rows)) q))
+    ∙ sym (fin.get-from_entries key_total (map (group_over set fs rows) (keys set rows)) q))
 
 pub keys-distinct : (set : List ℕ) (rows : List Row) → IsDistinct same_key (keys set rows)
 unfolding IsDistinct
@@ -119,11 +123,11 @@ keys-distinct [] rows = (tt, tt)
 keys-distinct (p ∷ ps) rows = distinct-is same_key (map (project (p ∷ ps)) rows)
 
 -- the keys of the entries of some keys are these
-pub firsts : (set : List ℕ) (fs : List AggregateFunction) (rows : List Row) (ks : List Key) → ks ≡ map (λ e. e.0) (map (group set fs rows) ks)
+pub firsts : (set : List ℕ) (fs : List AggregateFunction) (rows : List Row) (ks : List Key) → ks ≡ map (λ e. e.0) (map (group_over set fs rows) ks)
 firsts set fs rows [] = refl
 firsts set fs rows (k ∷ ks) = ap (λ xs. k ∷ xs) (firsts set fs rows ks)
 
-group_summaries-accumulator_state : (set : List ℕ) (fs : List AggregateFunction) (rows : List Row) (ks : List Key) → map state_summary (map (group set fs rows) ks) ≡ map (λ k. group_summary fs k (members set k rows)) ks
+group_summaries-accumulator_state : (set : List ℕ) (fs : List AggregateFunction) (rows : List Row) (ks : List Key) → map state_summary (map (group_over set fs rows) ks) ≡ map (λ k. group_summary fs k (members set k rows)) ks
 group_summaries-accumulator_state set fs rows [] = refl
 group_summaries-accumulator_state set fs rows (k ∷ ks) = λ i. group_summary-accumulator_state fs k (members set k rows) i ∷ group_summaries-accumulator_state set fs rows ks i
 
@@ -132,7 +136,7 @@ pub lines-bag : (set : List ℕ) (fs : List AggregateFunction) (rows : List Row)
     → IsDistinct same_key (map (λ e. e.0) es) → SameBag (map state_summary es) (group_summaries set fs rows)
 lines-bag set fs rows es t v h d f =
     let ks = keys set rows in
-    let gs = map (group set fs rows) ks in
+    let gs = map (group_over set fs rows) ks in
     let w : Key × GroupState → ℕ = λ e. f (state_summary e) in
     weigh-map f state_summary es
     ∙ sym (entries-bag es d w)

@@ -4,7 +4,7 @@ use borrow.Rule.Slice.PartMut.{put_mid}
 use Rattle.std.specs.Int.{from_be_bytes, w128}
 use Rattle.std.proofs.lemmas.List.{drop_all, drop-append-le, drop-drop, drop-replicate, take-replicate}
 use Rattle.std.proofs.lemmas.Nat.{div_below}
-use Rattle.tables_groups.specs.Inside.Shards.{code_hash, last_bytes}
+use Rattle.tables_groups.specs.Shards.{code_hash, last_bytes}
 
 upper-below : (number : ℕ) → number % 2 ^ 128 / 2 ^ 96 < 2 ^ 32
 upper-below number = div_below (number % 2 ^ 128) (2 ^ 96) (2 ^ 32) (omega arith) (omega arith)

@@ -2,8 +2,9 @@
 use Rattle.std.proofs.Common.{Result, Ok, Err, IfOk, ◌≡◌, ◌<◌, ℕ, zero, suc, true, All, List, [], ◌∷◌, length, map, get_or, take, drop, ◌++◌, refl, sym, ap, subst, ◌∙◌, arith}
 use Rattle.std.proofs.lemmas.List.{length-map}
 use Rattle.tables_groups.specs.Inside.Pairs.{CanJoinPair, HasJoined}
-use Rattle.tables_groups.specs.Inside.Shards.{AreJoined, CanJoinEach, contents_in}
-use Rattle.tables_groups.specs.Inside.Table.{CanJoin, IsJoined}
+use Rattle.tables_groups.specs.Inside.Shards.{AreJoined, CanJoinEach}
+use Rattle.tables_groups.specs.Shards.{contents_in}
+use Rattle.tables_groups.specs.Table.{CanJoin, IsJoined}
 use Rattle.tables_groups.specs.declared.pairs.Pair.{Pair}
 use Rattle.tables_groups.specs.declared.shard.Shard.{Shard}
 use Rattle.tables_groups.proofs.Shards.{defaults}

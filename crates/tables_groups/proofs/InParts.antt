@@ -4,7 +4,7 @@ use Rattle.std.specs.declared.alloc.AllocError.{AllocError}
 use Rattle.semantics.specs.Found.{GroupSummary}
 use Rattle.tables_groups.specs.GroupSummaries.{group_summary_in}
 use Rattle.tables_groups.specs.Inside.GroupsOfShards.{AreGroupsOfEach, AreGroupsOfShard}
-use Rattle.tables_groups.specs.Inside.Shards.{all_entries, entries_in}
+use Rattle.tables_groups.specs.Shards.{all_entries, entries_in}
 use Rattle.tables_groups.specs.declared.group.Group.{Group}
 use Rattle.tables_groups.specs.declared.shard.Shard.{Shard}
 use Rattle.tables_groups.specs.Inside.Summaries.{entry_summaries}

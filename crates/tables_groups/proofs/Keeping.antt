@@ -9,8 +9,10 @@ use Rattle.query_resolve.specs.declared.function.FilteredFunction.{FilteredFunct
 use Rattle.tables_groups.specs.declared.accumulator.Accumulator.{Accumulator}
 use Rattle.semantics.specs.Groups.{Row, value_at}
 use Rattle.tables_groups.specs.Rows.{IsNarrow, IsNarrowRow}
-use Rattle.tables_groups.specs.Inside.Accumulator.{AccumulatorState, nothing, counted, summed, averaged, collected, lowest, highest, no_state, state_over, with_value, with_count, with_record, with_member, is_marked, joint_state, state_in, HasRoom, IsWithin, IsUnbounded}
-use Rattle.tables_groups.specs.Inside.Group.{all_with_row, joint_states, IsSound}
+use Rattle.tables_groups.specs.Accumulator.{AccumulatorState, nothing, counted, summed, averaged, collected, lowest, highest, state_over, joint_state}
+use Rattle.tables_groups.specs.Inside.Accumulator.{no_state, with_value, with_count, with_record, with_member, is_marked, state_in, HasRoom, IsWithin, IsUnbounded}
+use Rattle.tables_groups.specs.Inside.Group.{all_with_row, IsSound}
+use Rattle.tables_groups.specs.Group.{joint_states}
 use Rattle.tables_groups.proofs.Firsts.{less-null, greater-null}
 use Rattle.tables_groups.proofs.Sets.{union-empty}
 
@@ -84,7 +86,7 @@ joined-within a b (averaged s m) (averaged t n) v w = (omega (arith, v, w), (ome
 joined-within a b (collected s) (collected t) v w = tt
 joined-within a b (lowest k) (lowest l) v w = tt
 joined-within a b (highest k) (highest l) v w = tt
-joined-within a b k l v w = more-within a b k v
+joined-within a b k l v w = tt
 
 pub more-sound : (a b : ℕ) (ks : List AccumulatorState) → IsSound a ks → IsSound (a + b) ks
 more-sound a b [] s = tt

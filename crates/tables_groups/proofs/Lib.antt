@@ -3,6 +3,7 @@ pub mod Keeping
 pub mod Order
 pub mod Repeats
 pub mod Bags
+pub mod Sorting
 pub mod Firsts
 pub mod Sets
 pub mod Entries
@@ -14,6 +15,7 @@ pub mod Rolled
 pub mod AnyOrder
 pub mod SameRecords
 pub mod Rolling
+pub mod Joint
 pub mod Counted
 pub mod Typed
 pub mod TypedGroups

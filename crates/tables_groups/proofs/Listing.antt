@@ -16,11 +16,11 @@ use Rattle.semantics.specs.GroupStates.{EntryForm}
 use Rattle.group_states.specs.declared.entry.GroupEntry.{GroupEntry}
 use Rattle.tables_groups.specs.declared.keyed.Keyed.{Keyed}
 use Rattle.tables_groups.specs.declared.packed_key.PackedKey.{PackedKey}
-use Rattle.tables_groups.specs.Inside.Entries.{entry_at, table_entries}
-use Rattle.tables_groups.specs.Inside.Group.{GroupState}
+use Rattle.tables_groups.specs.Entries.{entry_at, table_entries}
+use Rattle.tables_groups.specs.Group.{GroupState}
 use Rattle.tables_groups.specs.Inside.Keyed.{is_before, keyed_at, keyed_entry, sort_code}
-use Rattle.tables_groups.specs.Inside.Keys.{key_in}
-use Rattle.tables_groups.specs.Inside.Table.{Contents, contents_of, entries_by_key}
+use Rattle.tables_groups.specs.Keys.{key_in}
+use Rattle.tables_groups.specs.Table.{Contents, contents_of, entries_by_key}
 use Rattle.tables_groups.proofs.Ascending.{map-sorted}
 use Rattle.tables_groups.proofs.Codes.{groups-told}
 use Rattle.tables_groups.proofs.Distinct.{distinct-shown}

@@ -16,10 +16,13 @@ use Rattle.query_resolve.specs.declared.function.FilteredFunction.{FilteredFunct
 use Rattle.semantics.specs.Groups.{Row, value_at, Key, project, key_order, same_key, keys, members}
 use Rattle.semantics.specs.Aggregates.{is_present, number_of, column_values, column_numbers, AggregateFunction, total, least, greatest}
 use Rattle.tables_groups.specs.Functions.{aggregate_of, filter_at}
-use Rattle.tables_groups.specs.Inside.Values.{falling_order, first_by, set_of}
-use Rattle.tables_groups.specs.Inside.Accumulator.{AccumulatorState, counted, summed, averaged, collected, lowest, highest, accumulator_state, state_over, state_counted, state_by, no_state, is_marked, with_member, with_record, joint_state}
-use Rattle.tables_groups.specs.Inside.Group.{GroupState, group_state, no_group, all_with_row, joint_states, with_row, joint_group}
-use Rattle.tables_groups.specs.Inside.Table.{Contents, IsTableOf, IsAdded, IsPut, IsJoined, HasPlace, IsFitting, CanJoin, IsGroupWithin, AreGroupsWithin, TakesOne, group_with_record, joint_option}
+use Rattle.tables_groups.specs.Values.{falling_order, first_by, set_of}
+use Rattle.tables_groups.specs.Accumulator.{AccumulatorState, counted, summed, averaged, collected, lowest, highest, accumulator_state, state_over, state_counted, state_by, joint_state}
+use Rattle.tables_groups.specs.Inside.Accumulator.{no_state, is_marked, with_member, with_record}
+use Rattle.tables_groups.specs.Group.{GroupState, group_state, joint_states, joint_group}
+use Rattle.tables_groups.specs.Inside.Group.{no_group, all_with_row, with_row}
+use Rattle.tables_groups.specs.Table.{Contents, IsTableOf, IsJoined, IsFitting, CanJoin, TakesOne, joint_option}
+use Rattle.tables_groups.specs.Inside.Table.{IsAdded, IsPut, HasPlace, IsGroupWithin, AreGroupsWithin, group_with_record}
 use Rattle.tables_groups.proofs.Order.{key_total}
 use Rattle.tables_groups.proofs.Firsts.{present-all, least-append, least-one, greatest-append, greatest-one}
 use Rattle.tables_groups.proofs.Repeats.{any-distinct}

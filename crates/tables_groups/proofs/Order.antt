@@ -13,11 +13,12 @@ use Rattle.values.specs.Datum.{datum_of}
 use Rattle.values.specs.declared.value.Value.{Value}
 use Rattle.values.specs.declared.value.Value.TheVariants as v
 use Rattle.values.specs.contracts.value.ValuePartialEq.TheImpl.{eq-value}
-use Rattle.tables_groups.specs.Inside.Coding.{parts, datum_of_parts, datum_of_parts-parts}
+use Rattle.tables_groups.specs.Coding.{parts, datum_of_parts, datum_of_parts-parts}
 use Rattle.semantics.specs.Groups.{Key, key_order, same_key}
 use Rattle.sort_keys.specs.Codes.{values_code}
 use Rattle.sort_keys.proofs.Decoding.{keys-one}
-use Rattle.tables_groups.specs.Inside.Keys.{key_eq, key_in}
+use Rattle.tables_groups.specs.Inside.Keys.{key_eq}
+use Rattle.tables_groups.specs.Keys.{key_in}
 use Rattle.tables_groups.specs.declared.packed_key.PackedKey.{PackedKey}
 
 abbrev order_of_parts : Datum → Datum → Ordering

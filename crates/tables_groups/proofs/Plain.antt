@@ -19,11 +19,13 @@ use Rattle.group_states.specs.declared.entry.State.{State}
 use Rattle.semantics.specs.GroupStates as state
 use Rattle.tables_groups.specs.declared.accumulator.Accumulator.{Accumulator}
 use Rattle.tables_groups.specs.Functions.{aggregate_of, aggregates_of}
-use Rattle.tables_groups.specs.Inside.Accumulator.{AccumulatorState, nothing, counted, summed, averaged, collected, lowest, highest, IsSumOf, IsWithin, accumulator_state, state_by, state_in}
-use Rattle.tables_groups.specs.Inside.Entries.{AreStatesFor, HasFormBy, IsAscending, IsStateFor, ascending_values, kept_state, kept_states, plain_state}
-use Rattle.tables_groups.specs.Inside.Typed.{AreStatesOf, IsStateOf}
-use Rattle.tables_groups.specs.Inside.Typed as typed
-use Rattle.tables_groups.specs.Inside.Values.{Values, set_of}
+use Rattle.tables_groups.specs.Accumulator.{AccumulatorState, nothing, counted, summed, averaged, collected, lowest, highest, IsSumOf, accumulator_state, state_by}
+use Rattle.tables_groups.specs.Inside.Accumulator.{IsWithin, state_in}
+use Rattle.tables_groups.specs.Entries.{AreStatesFor, HasFormBy, IsAscending, IsStateFor, ascending_values, plain_state}
+use Rattle.tables_groups.specs.Inside.Entries.{kept_state, kept_states}
+use Rattle.tables_groups.specs.Typed.{AreStatesOf}
+use Rattle.tables_groups.specs.Typed as typed
+use Rattle.tables_groups.specs.Values.{Values, set_of}
 use Rattle.tables_groups.proofs.Ascending.{any-in_order, ascending-sorted, in_order-sorted, one-sorted}
 use Rattle.tables_groups.proofs.Order.{value_antisymmetric, value_total}
 use Rattle.tables_groups.proofs.Repeats.{any-distinct, distinct-is}

@@ -1,6 +1,6 @@
 -- A table of another set, made of the groups of a finer table.
 use Rattle.tables_groups.specs.declared.packed_key.PackedKey.{PackedKey}
-use Rattle.tables_groups.specs.Inside.Keys.{key_in}
+use Rattle.tables_groups.specs.Keys.{key_in}
 use Rattle.std.proofs.Common.{◌≡◌, ℕ, Bool, filter, true, false, ◌||◌, ◌&&◌, cond, List, [], ◌∷◌, ◌++◌, map, Option, Some, None, IsSome, unwrap_or, refl, sym, ap, subst, ◌∙◌, append_assoc}
 use Rattle.std.specs.List.{list_any, IsDistinct, AllByRecursion}
 use Rattle.std.specs.Map.{keys_of}
@@ -9,10 +9,12 @@ use Rattle.query_resolve.specs.declared.function.FilteredFunction.{FilteredFunct
 use Rattle.semantics.specs.Groups.{Row, Key, project, key_order, same_key, members}
 use Rattle.semantics.specs.Aggregates.{AggregateFunction}
 use Rattle.tables_groups.specs.Functions.{aggregate_of}
-use Rattle.tables_groups.specs.Inside.Group.{GroupState, group_state, no_group, joint_group}
+use Rattle.tables_groups.specs.Group.{GroupState, group_state, joint_group}
+use Rattle.tables_groups.specs.Inside.Group.{no_group}
 use Rattle.tables_groups.specs.Bags.{SameBag}
 use Rattle.tables_groups.specs.Rolled.{rolled_key, AreAmong, finer_keys, finer_members}
-use Rattle.tables_groups.specs.Inside.Table.{Contents, IsTableOf, IsEnlarged, IsPut, TakesEach, group_with_members, joint_option, group_with_entries, group_of_keys, entries_by_key, contents_of}
+use Rattle.tables_groups.specs.Table.{Contents, IsTableOf, joint_option, group_of_keys, entries_by_key, contents_of}
+use Rattle.tables_groups.specs.Inside.Table.{IsEnlarged, IsPut, TakesEach, group_with_members, group_with_entries}
 use Rattle.tables_groups.proofs.Order.{key_total, same_key-Decides, key_eq-ties}
 use Rattle.tables_groups.proofs.Entries.{Entries, key_eq, find-first}
 use Rattle.tables_groups.proofs.Distinct.{distinct-shown}

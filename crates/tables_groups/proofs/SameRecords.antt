@@ -7,34 +7,23 @@ use Rattle.semantics.specs.Aggregates.{AggregateFunction}
 use Rattle.tables_groups.specs.GroupSummaries.{group_summaries}
 use Rattle.semantics.specs.Found.{group_summary}
 use Rattle.tables_groups.specs.Bags.{SameBag}
-use Rattle.tables_groups.specs.Inside.Group.{group_state}
-use Rattle.tables_groups.specs.Inside.Table.{Contents, IsTableOf}
+use Rattle.tables_groups.specs.Table.{group_over, table_of}
 use Rattle.tables_groups.proofs.AnyOrder.{table-same}
 use Rattle.tables_groups.proofs.Bags.{bag-filter, weigh-map}
-use Rattle.tables_groups.proofs.GroupsLaw.{firsts, found, group, keys-distinct, lines-bag}
-use Rattle.tables_groups.proofs.Order.{key_total}
+use Rattle.tables_groups.proofs.GroupsLaw.{firsts, keys-distinct, lines-bag, table_of-is}
 
 pub members-same : (set : List ℕ) (key : Key) (rows others : List Row) → SameBag rows others → SameBag (members set key rows) (members set key others)
 members-same set key rows others same = bag-filter (λ row. same_key key (project set row)) rows others same
 
--- the table that the groups of some records make
-abbrev own : List ℕ → List AggregateFunction → List Row → Contents
-own set fs rows = fin.from_entries (map (group set fs rows) (keys set rows))
-
-own-is : (set : List ℕ) (fs : List AggregateFunction) (rows : List Row) → IsTableOf set fs (own set fs rows) rows
-own-is set fs rows = λ key.
-    fin.get-from_entries key_total (map (group set fs rows) (keys set rows)) key
-    ∙ found (λ k. group_state fs (members set k rows)) key (keys set rows)
-
--- it is that of the same records in another order too, and so are its groups
+-- the groups of records are those of the same records in another order
 pub summaries-same : (set : List ℕ) (fs : List AggregateFunction) (rows others : List Row) → SameBag rows others → SameBag (group_summaries set fs rows) (group_summaries set fs others)
 summaries-same set fs rows others same = λ weight.
     let ks = keys set rows in
-    let t = own set fs rows in
-    let is = own-is set fs rows in
+    let t = table_of set fs rows in
+    let is = table_of-is set fs rows in
     let once = subst (λ (xs : List Key). IsDistinct same_key xs) (firsts set fs rows ks) (keys-distinct set rows) in
-    sym (lines-bag set fs rows (map (group set fs rows) ks) t refl is once weight)
-    ∙ lines-bag set fs others (map (group set fs rows) ks) t refl (table-same set fs t rows others same is) once weight
+    sym (lines-bag set fs rows (map (group_over set fs rows) ks) t refl is once weight)
+    ∙ lines-bag set fs others (map (group_over set fs rows) ks) t refl (table-same set fs t rows others same is) once weight
 
 -- the keys are those of the groups, whatever is shown of these
 pub keys-same : (set : List ℕ) (rows others : List Row) → SameBag rows others → SameBag (keys set rows) (keys set others)

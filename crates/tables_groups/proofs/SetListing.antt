@@ -16,9 +16,10 @@ use Rattle.sort_keys.specs.SortKeys.{SortParts, parts_of}
 use Rattle.values.specs.Datum.{data_of, datum_of}
 use Rattle.values.specs.declared.value.Value.{Value}
 use Rattle.tables_groups.specs.declared.keyed.Keyed.{Keyed}
-use Rattle.tables_groups.specs.Inside.Entries.{ascending_values}
+use Rattle.tables_groups.specs.Entries.{ascending_values}
 use Rattle.tables_groups.specs.Inside.Keyed.{is_before, keyed_datum, keyed_value}
-use Rattle.tables_groups.specs.Inside.Values.{set_of, values_in}
+use Rattle.tables_groups.specs.Values.{set_of}
+use Rattle.tables_groups.specs.Inside.Values.{values_in}
 use Rattle.tables_groups.proofs.Codes.{values-told}
 use Rattle.tables_groups.proofs.Moved.{ascend-beside, moved-beside}
 use Rattle.tables_groups.proofs.Order.{value_antisymmetric, value_total}

@@ -12,7 +12,8 @@ use Rattle.values.specs.Datum.{data_of, datum_of}
 use Rattle.values.specs.declared.value.Value.{Value}
 use Rattle.semantics.specs.Names.{distinct}
 use Rattle.semantics.specs.Aggregates.{is_present, present, same_value}
-use Rattle.tables_groups.specs.Inside.Values.{Values, set_of, values_in}
+use Rattle.tables_groups.specs.Values.{Values, set_of}
+use Rattle.tables_groups.specs.Inside.Values.{values_in}
 use Rattle.tables_groups.proofs.Order.{value_total, value_antisymmetric, value_eq, value_eq-ties}
 use Rattle.tables_groups.proofs.Repeats.{alike, any-distinct, distinct-is}
 

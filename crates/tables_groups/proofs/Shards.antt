@@ -1,6 +1,6 @@
 -- Shards of a table: what is found in all of them is what is found in the one of the key's place.
 use Rattle.tables_groups.specs.declared.packed_key.PackedKey.{PackedKey}
-use Rattle.tables_groups.specs.Inside.Keys.{key_in}
+use Rattle.tables_groups.specs.Keys.{key_in}
 use Rattle.std.proofs.Common.{vec_len, inl, inr, ◌≡◌, ◌≢◌, ◌+◌, ◌*◌, ◌<◌, ℕ, zero, suc, true, false, cond, IfSome, Option, Some, None, List, [], ◌∷◌, ◌++◌, set, length, get_or, drop, Vec, Global, refl, sym, ap, subst, ◌∙◌, arith, mul-lt-mul_of_pos_right}
 use Rattle.std.proofs.lemmas.List.{get_or-set_same, get_or-set_other, length-set}
 use Rattle.std.proofs.lemmas.Bool.{cases_eq}
@@ -9,9 +9,10 @@ use Rattle.std.specs.FinMap.{find, get, get-from_entries}
 use Rattle.std.specs.List.{IsDistinct, AllByRecursion}
 use Rattle.std.specs.Map.{keys_of}
 use Rattle.semantics.specs.Groups.{Key, key_order, same_key}
-use Rattle.tables_groups.specs.Inside.Group.{GroupState}
-use Rattle.tables_groups.specs.Inside.Table.{CanJoin, Contents, IsFitting, IsJoined, joint_option, entries_by_key}
-use Rattle.tables_groups.specs.Inside.Shards.{AreApart, AreJoined, CanJoinEach, all_entries, contents_in, contents_of_shards, digest, entries_in, shard_index}
+use Rattle.tables_groups.specs.Group.{GroupState}
+use Rattle.tables_groups.specs.Table.{CanJoin, Contents, IsFitting, IsJoined, joint_option, entries_by_key}
+use Rattle.tables_groups.specs.Shards.{AreApart, all_entries, contents_in, contents_of_shards, digest, entries_in, shard_index}
+use Rattle.tables_groups.specs.Inside.Shards.{AreJoined, CanJoinEach}
 use Rattle.tables_groups.specs.declared.shard.Shard.{Shard}
 use Rattle.sort_keys.specs.Codes.{values_code}
 use Rattle.tables_groups.proofs.Hashes.{hash-below}

@@ -19,12 +19,15 @@ use Rattle.semantics.specs.declared.function.ColumnFunction.TheVariants as funct
 use Rattle.tables_groups.specs.Fitting.{HasType, IsHeld}
 use Rattle.tables_groups.specs.Functions.{aggregate_of, filter_at}
 use Rattle.tables_groups.specs.Rolled.{AreAmong, index_in, rolled_key}
-use Rattle.tables_groups.specs.Inside.Accumulator.{AccumulatorState, nothing, counted, summed, averaged, collected, lowest, highest, accumulator_state, joint_state, no_state, state_counted, state_over, summary}
-use Rattle.tables_groups.specs.Inside.Group.{GroupState, group_state, joint_group, joint_states, no_group}
-use Rattle.tables_groups.specs.Inside.Table.{Contents, HasGroupsOfBoth, IsEnlarged, IsPut, IsTableUnder, contents_of, group_with_entries, group_with_members, joint_option}
-use Rattle.tables_groups.specs.Inside.Typed.{AllFit, AreColumns, AreStatesOf, HasColumn, HaveColumns, IsKeyOf, IsStateBy, IsStateCounted, IsStateOver, IsTypedTable, KeepsTypes}
-use Rattle.tables_groups.specs.Inside.Values.{falling_order}
-use Rattle.tables_groups.specs.Inside.Keys.{key_in}
+use Rattle.tables_groups.specs.Accumulator.{AccumulatorState, nothing, counted, summed, averaged, collected, lowest, highest, accumulator_state, joint_state, state_counted, state_over}
+use Rattle.tables_groups.specs.Inside.Accumulator.{no_state, summary}
+use Rattle.tables_groups.specs.Group.{GroupState, group_state, joint_group, joint_states}
+use Rattle.tables_groups.specs.Inside.Group.{no_group}
+use Rattle.tables_groups.specs.Table.{Contents, HasGroupsOfBoth, IsTableUnder, contents_of, joint_option}
+use Rattle.tables_groups.specs.Inside.Table.{IsEnlarged, IsPut, group_with_entries, group_with_members}
+use Rattle.tables_groups.specs.Typed.{AllFit, AreColumns, AreStatesOf, HasColumn, HaveColumns, IsKeyOf, IsStateBy, IsStateCounted, IsStateOver, IsTypedTable, KeepsTypes}
+use Rattle.tables_groups.specs.Values.{falling_order}
+use Rattle.tables_groups.specs.Keys.{key_in}
 use Rattle.tables_groups.proofs.Entries.{Entries, key_eq}
 use Rattle.tables_groups.proofs.Meaning.{any-key, has_key}
 use Rattle.tables_groups.proofs.Order.{same_key-Decides}

@@ -9,10 +9,11 @@ use Rattle.semantics.specs.declared.function.ColumnFunction.TheVariants as funct
 use Rattle.query_resolve.specs.declared.function.FilteredFunction.{FilteredFunction}
 use Rattle.semantics.specs.GroupStates.{EntryForm, FunctionState}
 use Rattle.semantics.specs.GroupStates as state
-use Rattle.tables_groups.specs.Inside.Entries.{AreStatesFor, HasFormBy, IsEntryFor, IsExtremeOf, IsTypedEntry, kept_group, kept_state, kept_states}
-use Rattle.tables_groups.specs.Inside.Group.{GroupState}
-use Rattle.tables_groups.specs.Inside.Table.{Contents}
-use Rattle.tables_groups.specs.Inside.Typed.{AreStatesOf, IsKeyOf, IsStateBy, IsTypedTable}
+use Rattle.tables_groups.specs.Entries.{AreStatesFor, HasFormBy, IsEntryFor, IsExtremeOf, IsTypedEntry}
+use Rattle.tables_groups.specs.Inside.Entries.{kept_group, kept_state, kept_states}
+use Rattle.tables_groups.specs.Group.{GroupState}
+use Rattle.tables_groups.specs.Table.{Contents}
+use Rattle.tables_groups.specs.Typed.{AreStatesOf, IsKeyOf, IsStateBy, IsTypedTable}
 use Rattle.tables_groups.proofs.Order.{same_key-Decides}
 
 -- what is kept of a state of the function's form is of its type

@@ -15,10 +15,10 @@ use Rattle.semantics.specs.Columns.{Field}
 use Rattle.semantics.specs.Found.{GroupSummary}
 use Rattle.semantics.specs.Groups.{Key, same_key}
 use Rattle.tables_groups.specs.Fitting.{HasType}
-use Rattle.tables_groups.specs.Inside.Keys.{key_in}
+use Rattle.tables_groups.specs.Keys.{key_in}
 use Rattle.tables_groups.specs.Inside.Summaries.{entry_summaries}
-use Rattle.tables_groups.specs.Inside.Table.{Contents, contents_of}
-use Rattle.tables_groups.specs.Inside.Typed.{AreOfTypes, IsKeyOf, IsTypedTable}
+use Rattle.tables_groups.specs.Table.{Contents, contents_of}
+use Rattle.tables_groups.specs.Typed.{AreOfTypes, IsKeyOf, IsTypedTable}
 use Rattle.tables_groups.proofs.Distinct.{distinct-shown}
 use Rattle.tables_groups.proofs.Entries.{Entries, key_eq}
 use Rattle.tables_groups.proofs.Order.{key_total, same_key-Decides}

@@ -1,5 +1,5 @@
 -- Lists that are the same but for the order of their things.
-use Rattle.std.specs.Prelude.{◌≡◌, ℕ, ◌+◌, List, [], ◌∷◌}
+use Rattle.std.specs.Prelude.{◌≡◌, ℕ, ◌+◌, List, ◌∷◌, []}
 
 -- the weights of the things, added up
 abbrev pub weigh : {X : Type 0} → (X → ℕ) → List X → ℕ

@@ -1,5 +1,5 @@
 -- A group beside the index of its grouping set, apart from where it lies in memory.
-use Rattle.std.specs.Prelude.{ℕ, ◌+◌, List, [], ◌∷◌, ◌++◌, map}
+use Rattle.std.specs.Prelude.{ℕ, ◌+◌, List, ◌∷◌, ◌++◌, map, []}
 use Rattle.std.specs.Global.{Vec}
 use Rattle.tables_groups.specs.declared.group.Group.{Group}
 use Rattle.semantics.specs.Found.{Found}
@@ -7,8 +7,6 @@ use Rattle.tables_groups.specs.GroupSummaries.{group_summary_in}
 
 abbrev pub row_of : ℕ × Group → Found
 row_of row = (row.0, group_summary_in row.1)
-
--- ---- in the code
 
 -- the rows of groups, those of each grouping set beside its index, where the first has the index n
 abbrev pub rows_from : ℕ → List (Vec Group) → List Found

@@ -1,5 +1,5 @@
 -- The keys of a grouping set, by those of a finer one: a set that has all its columns.
-use Rattle.std.specs.Prelude.{◌≡◌, ◌==◌, ℕ, zero, suc, true, List, [], ◌∷◌, map, filter, if◌then◌else◌}
+use Rattle.std.specs.Prelude.{◌≡◌, ◌==◌, ℕ, zero, suc, true, List, ◌∷◌, map, filter, if◌then◌else◌, []}
 use Rattle.std.specs.List.{AllByRecursion, flat_map, list_any}
 use Rattle.semantics.specs.Groups.{Row, Key, project, same_key, keys, members}
 

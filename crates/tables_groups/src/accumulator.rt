@@ -40,10 +40,12 @@ const _: () = prove!(size_of::<Accumulator>() <= 48);
 
 impl Accumulator {
     ghost use Rattle.std.specs.Prelude.{[], IfOk, OnOk, OnErr};
-    ghost use Rattle.tables_groups.specs.Inside.Accumulator.{is_marked, no_state, state_in, state_counted, state_over, with_count, with_member, with_record, with_value, joint_state, summary, HasRoom, IsUnbounded};
+    ghost use Rattle.tables_groups.specs.Inside.Accumulator.{is_marked, no_state, state_in, with_count, with_member, with_record, with_value, summary, HasRoom, IsUnbounded};
+    ghost use Rattle.tables_groups.specs.Accumulator.{state_counted, state_over, joint_state};
     ghost use Rattle.semantics.specs.Groups.{value_at};
     ghost use Rattle.group_states.specs.States.{state_of};
-    ghost use Rattle.tables_groups.specs.Inside.Entries.{kept_extreme, kept_state, kept_sum, plain_state};
+    ghost use Rattle.tables_groups.specs.Inside.Entries.{kept_extreme, kept_state, kept_sum};
+    ghost use Rattle.tables_groups.specs.Entries.{plain_state};
     ghost use Rattle.tables_groups.specs.Cells.{summary_of};
 
     /// What is kept of no record.
@@ -244,14 +246,15 @@ impl Accumulator {
         Ok(())
     }
 
-    /// Takes what is kept of other records for the same function. After an error what is kept is of no use.
+    /// Takes what is kept of other records for the same function; for another one nothing is kept. After an error what is kept
+    /// is of no use.
     pub(crate) fn absorb(&mut self, memory: Memory, other: Accumulator) -> Result<(), AllocError>
         requires { HasRoom (joint_state (state_in self.old) (state_in other)) }
         ensures joined { OnOk result (state_in self.new
             ≡ joint_state (state_in self.old) (state_in other)) }
         ensures unbounded { OnErr result (IsUnbounded (state_in self.new)) }
     {
-        match (self, other) {
+        match (&mut *self, other) {
             (Accumulator::Count(count), Accumulator::Count(more)) => *count += more,
             (Accumulator::Distinct(values), Accumulator::Distinct(more)) => {
                 values.absorb(memory, more)?;
@@ -277,7 +280,7 @@ impl Accumulator {
                 | Accumulator::Max(_)
                 | Accumulator::Average(_),
                 _,
-            ) => {}
+            ) => *self = Accumulator::Rows,
         }
         Ok(())
     }
@@ -293,7 +296,7 @@ impl Accumulator {
             ≡ joint_state (state_in self.old) (state_in other.now)) }
         ensures unbounded { OnErr result (IsUnbounded (state_in self.new)) }
     {
-        match (self, other) {
+        match (&mut *self, other) {
             (Accumulator::Count(count), Accumulator::Count(more)) => *count += *more,
             (Accumulator::Distinct(values), Accumulator::Distinct(more)) => {
                 values.absorb_copies(memory, more)?;
@@ -319,7 +322,7 @@ impl Accumulator {
                 | Accumulator::Max(_)
                 | Accumulator::Average(_),
                 _,
-            ) => {}
+            ) => *self = Accumulator::Rows,
         }
         Ok(())
     }

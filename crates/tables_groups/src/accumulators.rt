@@ -2,7 +2,7 @@
 ghost use Rattle.std.specs.Prelude.{◌≡◌, IfOk, map};
 ghost use Rattle.tables_groups.specs.Inside.Accumulator.{state_in, summary};
 ghost use Rattle.tables_groups.specs.Cells.{summary_of};
-ghost use Rattle.tables_groups.specs.Inside.Entries.{plain_state};
+ghost use Rattle.tables_groups.specs.Entries.{plain_state};
 ghost use Rattle.group_states.specs.States.{states_of};
 
 use crate::accumulator::Accumulator;
@@ -24,7 +24,8 @@ pub(crate) struct Accumulators {
 impl Model for Accumulators {
     ghost use Rattle.std.specs.Prelude.{map};
     ghost use Rattle.tables_groups.specs.Inside.Accumulator.{state_in};
-    ghost use Rattle.tables_groups.specs.Inside.Group.{GroupState, coded_group, IsSound};
+    ghost use Rattle.tables_groups.specs.Group.{GroupState, coded_group};
+    ghost use Rattle.tables_groups.specs.Inside.Group.{IsSound};
 
     ghost Value = { GroupState };
 
@@ -39,10 +40,12 @@ impl Accumulators {
     ghost use Rattle.std.specs.Prelude.{◌≡◌, ◌+◌, ◌<◌, ◌^◌, IfOk, OnOk, length, map};
     ghost use Rattle.values.specs.Datum.{data_of};
     ghost use Rattle.tables_groups.specs.Inside.Accumulator.{summary};
-    ghost use Rattle.tables_groups.specs.Inside.Group.{no_group, with_row, joint_group};
+    ghost use Rattle.tables_groups.specs.Inside.Group.{no_group, with_row};
+    ghost use Rattle.tables_groups.specs.Group.{joint_group};
     ghost use Rattle.tables_groups.specs.Rows.{IsNarrowRow};
     ghost use Rattle.group_states.specs.States.{states_of};
-    ghost use Rattle.tables_groups.specs.Inside.Entries.{AreStatesFor, kept_states, plain_state};
+    ghost use Rattle.tables_groups.specs.Entries.{AreStatesFor, plain_state};
+    ghost use Rattle.tables_groups.specs.Inside.Entries.{kept_states};
     ghost use Rattle.tables_groups.specs.Cells.{summary_of};
 
     /// What is kept of a group without members.

@@ -15,8 +15,8 @@ pub(crate) struct DistinctValues {
 
 impl Model for DistinctValues {
     ghost use Rattle.std.specs.FinSet as set;
-    ghost use Rattle.tables_groups.specs.Inside.Coding.{coded_datum};
-    ghost use Rattle.tables_groups.specs.Inside.Values.{Values};
+    ghost use Rattle.tables_groups.specs.Coding.{coded_datum};
+    ghost use Rattle.tables_groups.specs.Values.{Values};
     ghost use Rattle.tables_groups.specs.Inside.ValueSets.{shown};
 
     ghost Value = { Values };
@@ -31,8 +31,8 @@ impl DistinctValues {
     ghost use Rattle.std.specs.FinSet as set;
     ghost use Rattle.values.specs.Datum.{data_of, datum_of};
     ghost use Rattle.semantics.specs.Aggregates.{present};
-    ghost use Rattle.tables_groups.specs.Inside.Entries.{ascending_values};
-    ghost use Rattle.tables_groups.specs.Inside.Values.{set_of};
+    ghost use Rattle.tables_groups.specs.Entries.{ascending_values};
+    ghost use Rattle.tables_groups.specs.Values.{set_of};
 
     /// No value.
     pub(crate) fn new() -> DistinctValues

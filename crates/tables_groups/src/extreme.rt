@@ -3,7 +3,7 @@ ghost use Rattle.std.specs.Prelude.{◌≡◌};
 ghost use Rattle.std.specs.Ordering.{is_lt};
 ghost use Rattle.values.specs.Datum.{datum_of};
 ghost use Rattle.semantics.specs.Values.{value_order};
-ghost use Rattle.tables_groups.specs.Inside.Values.{falling_order};
+ghost use Rattle.tables_groups.specs.Values.{falling_order};
 
 use std::cmp::Ordering;
 use values::Value;

@@ -2,7 +2,7 @@
 ghost use Rattle.std.specs.Prelude.{◌≡◌, IfOk, List, map};
 ghost use Rattle.tables_groups.specs.GroupSummaries.{group_summary_in};
 ghost use Rattle.tables_groups.specs.Inside.GroupsOfShards.{AreGroupsOfEach, AreGroupsOfShard};
-ghost use Rattle.tables_groups.specs.Inside.Shards.{all_entries};
+ghost use Rattle.tables_groups.specs.Shards.{all_entries};
 ghost use Rattle.tables_groups.specs.Inside.Summaries.{entry_summaries};
 
 use crate::group::{Group, put_groups};

@@ -1,6 +1,6 @@
 //! The groups that a table gives.
 ghost use Rattle.std.specs.Prelude.{◌≡◌, ◌++◌, ◌∷◌, [], OnOk, map};
-ghost use Rattle.tables_groups.specs.Inside.Keys.{key_in};
+ghost use Rattle.tables_groups.specs.Keys.{key_in};
 ghost use Rattle.tables_groups.specs.GroupSummaries.{group_summary_in};
 ghost use Rattle.tables_groups.specs.Inside.Group.{state_summary};
 ghost use Rattle.tables_groups.specs.Inside.Summaries.{summaries_with};

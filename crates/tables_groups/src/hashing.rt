@@ -21,7 +21,7 @@ pub enum HashSeed {
 }
 
 impl HashSeed {
-    ghost use Rattle.tables_groups.specs.Inside.Hashing.{IsDrawn};
+    ghost use Rattle.tables_groups.specs.Hashing.{IsDrawn};
 
     /// A seed of 128 random bits of the system. It is drawn once, for all tables of a run.
     ///
@@ -38,7 +38,7 @@ impl HashSeed {
 }
 
 impl BuildHasher for HashSeed {
-    ghost use Rattle.tables_groups.specs.Inside.Hashing.{initial_hasher};
+    ghost use Rattle.tables_groups.specs.Hashing.{initial_hasher};
 
     type Hasher = DefaultHasher;
 

@@ -1,5 +1,5 @@
 //! Laws of tables and of their groups, which have no work to do.
-ghost use Rattle.std.specs.Prelude.{◌≡◌, ◌≤◌, ◌+◌, ℕ, Bool, List, length};
+ghost use Rattle.std.specs.Prelude.{◌≡◌, ◌≤◌, ◌+◌, ◌↔◌, ℕ, Bool, List, length};
 ghost use Rattle.std.specs.List.{flat_map};
 ghost use Rattle.semantics.specs.Groups.{Key, keys, members, Row};
 ghost use Rattle.tables_groups.specs.Rolled.{AreAmong, finer_members};
@@ -10,9 +10,9 @@ ghost use Rattle.query_resolve.specs.declared.function.FilteredFunction.{Filtere
 ghost use Rattle.semantics.specs.Columns.{Field};
 ghost use Rattle.semantics.specs.GroupStates.{entries_over};
 ghost use Rattle.tables_groups.specs.Functions.{aggregates_of};
-ghost use Rattle.tables_groups.specs.Inside.Entries.{table_entries};
-ghost use Rattle.tables_groups.specs.Inside.Table.{Contents, HasGroupsOfBoth, HasGroupsOfFiner, IsCounted, IsTableOf, IsTableUnder};
-ghost use Rattle.tables_groups.specs.Inside.Typed.{AllFit, AreColumns, HaveColumns, IsTypedTable};
+ghost use Rattle.tables_groups.specs.Entries.{table_entries};
+ghost use Rattle.tables_groups.specs.Table.{CanJoin, Contents, HasGroupsOfBoth, HasGroupsOfFiner, IsCounted, IsTableOf, IsTableUnder, IsUnionOf, both_tables};
+ghost use Rattle.tables_groups.specs.Typed.{AllFit, AreColumns, HaveColumns, IsTypedTable};
 
 /// A table of records is that of the same records in any other order.
 pub fn order_law()
@@ -53,6 +53,17 @@ pub fn roll_law()
         → AreAmong set finer → HasGroupsOfFiner finer functions table set rolled }
 {}
 
+/// One table alone has at each key what two tables have: both, put together. Of tables of records under one set and for the
+/// same functions it is the table of the records of both. Of two tables that can be put together it does not matter which
+/// one comes first.
+pub fn both_law()
+    ensures groups { (first second table : Contents)
+        → HasGroupsOfBoth first second table ↔ (table ≡ both_tables first second) }
+    ensures union { (first second : Contents) → IsUnionOf first second (both_tables first second) }
+    ensures either_way { (first second : Contents) → CanJoin first second
+        → both_tables first second ≡ both_tables second first }
+{}
+
 /// The groups of a table have no more records together than the table is of. Those of the groups of two tables, put
 /// together, have no more than those of both.
 pub fn counted_law()
@@ -60,9 +71,9 @@ pub fn counted_law()
         (filters : List (Row → Bool)) (table : Contents) (rows : List Row)
         → IsTableUnder set functions filters table rows → length rows ≤ most
         → IsCounted most functions table }
-    ensures joined { (m n : ℕ) (functions : List FilteredFunction) (a b c : Contents)
-        → IsCounted m functions a → IsCounted n functions b → HasGroupsOfBoth a b c
-        → IsCounted (m + n) functions c }
+    ensures joined { (m n : ℕ) (functions : List FilteredFunction) (a b : Contents)
+        → IsCounted m functions a → IsCounted n functions b
+        → IsCounted (m + n) functions (both_tables a b) }
 {}
 
 /// The groups of a table of records that fit the columns are of the types of these and of the set functions. So are
@@ -74,9 +85,9 @@ pub fn typed_law()
         → AreColumns fields set → HaveColumns fields functions
         → IsTypedTable fields set functions table }
     ensures joined { (fields : List Field) (set : List ℕ) (functions : List FilteredFunction)
-        (a b c : Contents) → IsTypedTable fields set functions a
-        → IsTypedTable fields set functions b → HasGroupsOfBoth a b c
-        → IsTypedTable fields set functions c }
+        (a b : Contents) → IsTypedTable fields set functions a
+        → IsTypedTable fields set functions b
+        → IsTypedTable fields set functions (both_tables a b) }
 {}
 
 /// The list of the groups of a table of records is that of the groups of these records, by ascending keys. And a table of

@@ -33,6 +33,6 @@ pub use cell::Cell;
 pub use group::Group;
 pub use hashing::HashSeed;
 pub use laws::{
-    counted_law, entries_law, members_law, order_law, records_law, roll_law, typed_law,
+    both_law, counted_law, entries_law, members_law, order_law, records_law, roll_law, typed_law,
 };
 pub use table::Table;

@@ -41,7 +41,7 @@ impl PackedKey {
     ghost use Rattle.values.specs.Datum.{data_of};
     ghost use Rattle.semantics.specs.Groups.{project};
     ghost use Rattle.sort_keys.specs.Codes.{value_code, values_code};
-    ghost use Rattle.tables_groups.specs.Inside.Keys.{key_in};
+    ghost use Rattle.tables_groups.specs.Keys.{key_in};
 
     /// The key that has no value.
     pub(crate) fn empty(alloc: Global) -> PackedKey

@@ -1,7 +1,7 @@
 //! Which shard of a table keeps a key.
 ghost use Rattle.std.specs.Prelude.{◌≡◌, ◌<◌, ◌≤◌, ◌^◌};
-ghost use Rattle.tables_groups.specs.Inside.Keys.{key_in};
-ghost use Rattle.tables_groups.specs.Inside.Shards.{code_hash, last_bytes, shard_index};
+ghost use Rattle.tables_groups.specs.Keys.{key_in};
+ghost use Rattle.tables_groups.specs.Shards.{code_hash, last_bytes, shard_index};
 
 use crate::packed_key::PackedKey;
 

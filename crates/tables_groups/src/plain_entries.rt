@@ -2,10 +2,10 @@
 ghost use Rattle.std.specs.Prelude.{◌≡◌, ◌++◌, IfOk, OnOk, map};
 ghost use Rattle.group_states.specs.States.{entries_of};
 ghost use Rattle.sort_keys.specs.SortKeys.{key_parts, parts_of};
-ghost use Rattle.tables_groups.specs.Inside.Entries.{table_entries};
+ghost use Rattle.tables_groups.specs.Entries.{table_entries};
 ghost use Rattle.tables_groups.specs.Inside.Keyed.{keyed_at, keyed_entry, sort_code};
-ghost use Rattle.tables_groups.specs.Inside.Keys.{key_in};
-ghost use Rattle.tables_groups.specs.Inside.Shards.{AreApart, all_entries, contents_of_shards, entries_in};
+ghost use Rattle.tables_groups.specs.Keys.{key_in};
+ghost use Rattle.tables_groups.specs.Shards.{AreApart, all_entries, contents_of_shards, entries_in};
 
 use crate::accumulators::Accumulators;
 use crate::keyed::{Keyed, sort_keyed, things_of};

@@ -30,9 +30,10 @@ impl Shard {
     ghost use Rattle.std.specs.Prelude.{◌≡◌, ◌≤◌, ◌^◌, Bool, false, [], OnOk, length};
     ghost use Rattle.std.specs.FinMap as fin;
     ghost use Rattle.semantics.specs.Groups.{Key, same_key};
-    ghost use Rattle.tables_groups.specs.Inside.Keys.{key_in};
-    ghost use Rattle.tables_groups.specs.Inside.Shards.{contents_in, entries_in};
-    ghost use Rattle.tables_groups.specs.Inside.Table.{CanJoin, IsFitting, IsJoined, IsPut, IsTaken, IsWithPart, TakesEach, group_with_entries};
+    ghost use Rattle.tables_groups.specs.Keys.{key_in};
+    ghost use Rattle.tables_groups.specs.Shards.{contents_in, entries_in};
+    ghost use Rattle.tables_groups.specs.Table.{CanJoin, IsFitting, IsJoined};
+    ghost use Rattle.tables_groups.specs.Inside.Table.{IsPut, IsTaken, IsWithPart, TakesEach, group_with_entries};
 
     /// The shard that has no group.
     pub(crate) fn new(memory: Memory) -> Shard

@@ -1,7 +1,8 @@
 //! A hashed table of groups.
 ghost use Rattle.std.specs.Prelude.{◌≡◌, ◌<◌, ◌≤◌, IfOk, vec_len};
 ghost use Rattle.std.proofs.Props.{props};
-ghost use Rattle.tables_groups.specs.Inside.Shards.{AreApart, AreJoined, CanJoinEach};
+ghost use Rattle.tables_groups.specs.Shards.{AreApart};
+ghost use Rattle.tables_groups.specs.Inside.Shards.{AreJoined, CanJoinEach};
 
 use crate::accumulators::Accumulators;
 use crate::finishing::groups_among;
@@ -67,8 +68,8 @@ impl Drop for Table {
 }
 
 impl Model for Table {
-    ghost use Rattle.tables_groups.specs.Inside.Table.{Contents, coded_contents};
-    ghost use Rattle.tables_groups.specs.Inside.Shards.{contents_of_shards};
+    ghost use Rattle.tables_groups.specs.Table.{Contents, coded_contents};
+    ghost use Rattle.tables_groups.specs.Shards.{contents_of_shards};
 
     ghost Value = { Contents };
 
@@ -84,12 +85,13 @@ impl Table {
     ghost use Rattle.std.specs.FinMap as fin;
     ghost use Rattle.values.specs.Datum.{data_of};
     ghost use Rattle.tables_groups.specs.Inside.Group.{no_group};
-    ghost use Rattle.tables_groups.specs.Inside.Keys.{key_in};
-    ghost use Rattle.tables_groups.specs.Inside.Shards.{contents_in};
-    ghost use Rattle.tables_groups.specs.Inside.Table.{AreGroupsOfTable, CanJoin, HasEmptyKey, HasFewRecords, HasGroupsOfBoth, HasOneMore, IsFitting, IsOfNone, IsPut, IsRollOf, IsTaken, IsUnionOf, IsWithPart, KeepsCount, TakesOne};
+    ghost use Rattle.tables_groups.specs.Keys.{key_in};
+    ghost use Rattle.tables_groups.specs.Shards.{contents_in};
+    ghost use Rattle.tables_groups.specs.Table.{AreGroupsOfTable, CanJoin, HasEmptyKey, HasFewRecords, HasGroupsOfBoth, HasOneMore, IsFitting, IsOfNone, IsRollOf, KeepsCount, TakesOne, both_tables};
+    ghost use Rattle.tables_groups.specs.Inside.Table.{IsPut, IsTaken, IsWithPart};
     ghost use Rattle.group_states.specs.States.{entries_of, entry_of};
-    ghost use Rattle.tables_groups.specs.Inside.Entries.{CountsEntry, IsBehind, IsEntryFor, TypesEntry, table_entries};
-    ghost use Rattle.tables_groups.specs.Inside.Typed.{HaveTypesOfTable, KeepsTypes};
+    ghost use Rattle.tables_groups.specs.Entries.{CountsEntry, IsBehind, IsEntryFor, TypesEntry, table_entries};
+    ghost use Rattle.tables_groups.specs.Typed.{HaveTypesOfTable, KeepsTypes};
     ghost use Rattle.tables_groups.specs.Rolled.{AreAmong};
 
     /// The table of no records under a grouping set, for these set functions, whatever their filters keep. The set has
@@ -225,8 +227,7 @@ impl Table {
     /// `AllocError` where there is no memory for it; the table is of no use then.
     pub fn absorb(&mut self, other: Table) -> Result<(), AllocError>
         requires { CanJoin self.old other }
-        ensures groups { OnOk result (HasGroupsOfBoth self.old other self.new) }
-        ensures joined { OnOk result (IsUnionOf self.old other self.new) }
+        ensures { OnOk result (self.new ≡ both_tables self.old other) }
     {
         let fresh = Table::without_groups(self.memory, 1)?;
         let table = mem::replace(self, fresh);
@@ -254,8 +255,7 @@ impl Table {
     ) -> Result<(), AllocError>
         requires join { CanJoin self.old other }
         requires hands { 0 < hands }
-        ensures groups { OnOk result (HasGroupsOfBoth self.old other self.new) }
-        ensures joined { OnOk result (IsUnionOf self.old other self.new) }
+        ensures { OnOk result (self.new ≡ both_tables self.old other) }
     {
         if hands == 1 || other.len() < PARALLEL_MIN_GROUPS {
             return self.absorb(other);

@@ -5,9 +5,10 @@ ghost use Rattle.std.specs.List.{AllByRecursion, IsDistinct};
 ghost use Rattle.semantics.specs.Aggregates.{same_value};
 ghost use Rattle.sort_keys.specs.Codes.{IsCodable};
 ghost use Rattle.values.specs.Datum.{data_of, datum_of};
-ghost use Rattle.tables_groups.specs.Inside.Entries.{ascending_values};
+ghost use Rattle.tables_groups.specs.Entries.{ascending_values};
 ghost use Rattle.tables_groups.specs.Inside.Keyed.{keyed_datum, keyed_value};
-ghost use Rattle.tables_groups.specs.Inside.Values.{set_of, values_in};
+ghost use Rattle.tables_groups.specs.Values.{set_of};
+ghost use Rattle.tables_groups.specs.Inside.Values.{values_in};
 ghost use Rattle.tables_groups.specs.Inside.ValueSets.{shown};
 
 use crate::copy::copy_of;
@@ -37,7 +38,7 @@ impl ValueSet {
     ghost use Rattle.std.specs.Prelude.{◌≡◌, IfOk, OnOk};
     ghost use Rattle.std.specs.FinSet as set;
     ghost use Rattle.values.specs.Datum.{data_of, datum_of};
-    ghost use Rattle.tables_groups.specs.Inside.Entries.{ascending_values};
+    ghost use Rattle.tables_groups.specs.Entries.{ascending_values};
     ghost use Rattle.tables_groups.specs.Inside.Values.{values_in};
     ghost use Rattle.tables_groups.specs.Inside.ValueSets.{shown};
 

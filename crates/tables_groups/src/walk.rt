@@ -2,7 +2,7 @@
 ghost use Rattle.std.specs.Prelude.{◌≡◌, IfOk, OnOk, map};
 ghost use Rattle.std.specs.List.Sorted.{IsPermutation};
 ghost use Rattle.tables_groups.specs.GroupSummaries.{group_summary_in};
-ghost use Rattle.tables_groups.specs.Inside.Shards.{all_entries, entries_in};
+ghost use Rattle.tables_groups.specs.Shards.{all_entries, entries_in};
 ghost use Rattle.tables_groups.specs.Inside.Summaries.{summaries_with};
 ghost use Rattle.tables_groups.specs.Inside.Walks.{entries_left};
 

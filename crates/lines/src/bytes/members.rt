@@ -2,7 +2,7 @@
 ghost use Rattle.std.specs.Prelude.{◌≡◌, ◌≤◌, IfSome, length};
 ghost use Rattle.serde_json.specs.Data.{no_members};
 ghost use Rattle.values.specs.Schema.{IsSchema, fields_of};
-ghost use Rattle.lines.specs.Members.{AreMembersAt, AreTaken, IsMemberAt};
+ghost use Rattle.lines.specs.Inside.Members.{AreMembersAt, AreTaken, IsMemberAt};
 
 use crate::bytes::naming::name_at;
 use crate::bytes::taking::value_at;

@@ -1,6 +1,6 @@
 //! The name of a member.
 ghost use Rattle.std.specs.Prelude.{◌≤◌, IfSome, length};
-ghost use Rattle.lines.specs.Members.{IsNameAt};
+ghost use Rattle.lines.specs.Inside.Members.{IsNameAt};
 
 use lines_json::{byte_at, plain_string_end, space_end};
 

@@ -1,7 +1,7 @@
 //! The value of a member, as a column of its name takes it.
 ghost use Rattle.std.specs.Prelude.{◌≡◌, ◌<◌, ◌≤◌, IfSome, get_or, length};
 ghost use Rattle.semantics.specs.declared.kind.Kind.{Kind};
-ghost use Rattle.lines.specs.Members.{IsTakenAt};
+ghost use Rattle.lines.specs.Inside.Members.{IsTakenAt};
 
 use crate::spare::Spare;
 use lines_json::{bool_at, byte_at, null_end, plain_string_end, push_content, whole_number_at};

@@ -4,7 +4,7 @@ ghost use Rattle.serde_json.specs.Data.{Data, Members};
 ghost use Rattle.values.specs.Datum.{datum_of};
 ghost use Rattle.values.specs.Schema.{IsSchema, fields_of};
 ghost use Rattle.lines_json.specs.Meant.{AreMembers, IsValue};
-ghost use Rattle.lines.specs.Members.{AreTaken};
+ghost use Rattle.lines.specs.Inside.Members.{AreTaken};
 ghost use Rattle.semantics.specs.Records.{datum_taken};
 
 use crate::columns::{MEMBER_DEPTH, missing_values, place_found_from, put_at};

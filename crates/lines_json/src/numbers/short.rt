@@ -1,8 +1,8 @@
 //! Whole numbers of up to 18 digits, in one pass over their bytes.
 ghost use Rattle.std.specs.Prelude.{◌≡◌, ◌<◌, ◌≤◌, ◌-◌, IfSome, IsTrue, drop, get_or, length, take, true};
 ghost use Rattle.std.specs.Str.Parse.{AllDigits, digits_value};
-ghost use Rattle.lines_json.specs.Inside.{is_word_end};
-ghost use Rattle.lines_json.specs.NumberParts.{AreDigitsAt};
+ghost use Rattle.lines_json.specs.Inside.Contents.{is_word_end};
+ghost use Rattle.lines_json.specs.Inside.NumberParts.{AreDigitsAt};
 ghost use Rattle.lines_json.specs.Standing.{IsWholeNumberAt};
 
 use crate::bytes::{byte_at, ends_word};

@@ -1,11 +1,11 @@
 -- How the hands of a deal are made from its deques.
-use Rattle.std.specs.Prelude.{◌≡◌, ℕ, ◌+◌, ◌-◌, ◌%◌, ◌<◌, ◌≤◌, List, [], ◌∷◌, length}
+use Rattle.std.specs.Prelude.{◌≡◌, ℕ, ◌+◌, ◌-◌, ◌%◌, ◌<◌, ◌≤◌, List, ◌∷◌, length, []}
 use mathlib.Core.Option.{some}
 use lib.ListN.{get_elem?}
 use Rattle.std.specs.declared.alloc.Global.{Global}
 use Rattle.pool.specs.Dealing.{residue_class}
 use Rattle.pool.specs.Holding.{IsRound}
-use Rattle.pool.specs.Inside.Views.{Offer}
+use Rattle.pool.specs.Views.{Offer}
 use Rattle.pool.specs.Seen.{Seen}
 use Rattle.pool.specs.Settled.{RoundOf}
 

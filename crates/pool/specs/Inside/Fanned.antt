@@ -1,11 +1,12 @@
 -- What all workers of a deal begin with, and do.
-use Rattle.std.specs.Prelude.{◌≡◌, ℕ, suc, ◌+◌, ◌^◌, ◌<◌, ◌⊎◌, All, List, [], ◌∷◌, length, map, slice_index_or}
+use Rattle.std.specs.Prelude.{◌≡◌, ℕ, suc, ◌+◌, ◌^◌, ◌<◌, ◌⊎◌, All, List, ◌∷◌, length, map, slice_index_or, []}
 use mathlib.Core.Option.{some}
 use lib.ListN.{get_elem?}
 use Rattle.pool.specs.Assembly.{IsNewDeal}
 use Rattle.pool.specs.Holding.{Holding}
-use Rattle.pool.specs.Inside.Done.{Worker, hands_of, sums_of, parts_of, Did, MayGoOn}
-use Rattle.pool.specs.Inside.Totals.{combination_of}
+use Rattle.pool.specs.Done.{Worker, Did, MayGoOn}
+use Rattle.pool.specs.Inside.Done.{hands_of, sums_of, parts_of}
+use Rattle.pool.specs.Inside.Combination.{combination_of}
 use Rattle.pool.specs.Reduction.{Reduction, load_below, load_onto}
 use Rattle.pool.specs.Settled.{pieces_of}
 

@@ -1,5 +1,5 @@
 -- What the owner of a deque finds in the lists of the other hands.
-use Rattle.std.specs.Prelude.{◌≡◌, ℕ, ◌+◌, ◌-◌, ◌<◌, List, [], ◌∷◌, length, true, false}
+use Rattle.std.specs.Prelude.{◌≡◌, ℕ, ◌+◌, ◌-◌, ◌<◌, List, ◌∷◌, length, true, false, []}
 use mathlib.Core.Option.{Option, some, none}
 use lib.ListN.{get_elem?}
 use Rattle.std.specs.declared.alloc.Global.{Global}
@@ -7,7 +7,8 @@ use Rattle.pool.specs.declared.view.View.{View}
 use Rattle.pool.specs.Holding.{Holding}
 use Rattle.pool.specs.Dealing.{GoesOn}
 use Rattle.pool.specs.Rule.{AllBelow}
-use Rattle.pool.specs.Inside.Rule.{Up, AreKnown}
+use Rattle.pool.specs.Inside.Steps.{Up}
+use Rattle.pool.specs.Steps.{AreKnown}
 use Rattle.pool.specs.Seen.{Seen, Owned, list}
 
 -- the list, where there is one

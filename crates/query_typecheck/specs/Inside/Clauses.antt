@@ -12,7 +12,7 @@ use Rattle.semantics.specs.Names.{group_names}
 use Rattle.semantics.specs.Sets.{expansion}
 use Rattle.semantics.specs.SetFunctions.{functions_of}
 use Rattle.semantics.specs.Types.{key_expression}
-use Rattle.query_typecheck.specs.Inside.FirstFaults.{clause_fault, column_fault, expression_fault, first_fault, headers_fault, limit_fault}
+use Rattle.query_typecheck.specs.FirstFaults.{clause_fault, column_fault, expression_fault, first_fault, headers_fault, limit_fault}
 
 -- WHERE, then the names in GROUP BY, then the number of its expanded sets.
 unfoldable pub records_fault : List Field → List ℕ → Option PredicateForm → List ElementForm → Option QueryFault

@@ -5,7 +5,7 @@ use Rattle.std.specs.declared.alloc.AllocError.{AllocError}
 use Rattle.std.specs.declared.result.Result.{Result}
 use Rattle.semantics.specs.Aggregates.{Summary}
 use Rattle.report_rows.specs.Parts.{AreOfParts}
-use Rattle.report.specs.Text.{rows_bytes}
+use Rattle.report.specs.Inside.Text.{rows_bytes}
 
 -- a text has the bytes of rows
 abbrev pub IsTextOf : List (List Summary) → List ℕ → Type 0

@@ -1,10 +1,10 @@
 -- The groups of shards that are finished one by one.
-use Rattle.std.specs.Prelude.{◌≡◌, List, [], ◌∷◌, IfOk, map}
+use Rattle.std.specs.Prelude.{◌≡◌, List, ◌∷◌, IfOk, map, []}
 use Rattle.std.specs.Global.{Vec}
 use Rattle.std.specs.declared.alloc.AllocError.{AllocError}
 use Rattle.std.specs.declared.result.Result.{Result}
 use Rattle.tables_groups.specs.GroupSummaries.{group_summary_in}
-use Rattle.tables_groups.specs.Inside.Shards.{entries_in}
+use Rattle.tables_groups.specs.Shards.{entries_in}
 use Rattle.tables_groups.specs.Inside.Summaries.{entry_summaries}
 use Rattle.tables_groups.specs.declared.group.Group.{Group}
 use Rattle.tables_groups.specs.declared.shard.Shard.{Shard}

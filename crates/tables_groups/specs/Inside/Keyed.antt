@@ -1,5 +1,5 @@
 -- Things beside sort keys.
-use Rattle.std.specs.Prelude.{ℕ, Bool, List, [], ◌∷◌, ◌++◌}
+use Rattle.std.specs.Prelude.{ℕ, Bool, List, ◌∷◌, ◌++◌, []}
 use Rattle.std.specs.Ordering.{is_lt}
 use Rattle.semantics.specs.Groups.{Key}
 use Rattle.semantics.specs.Values.{Datum}
@@ -12,9 +12,9 @@ use Rattle.values.specs.Datum.{datum_of}
 use Rattle.values.specs.declared.value.Value.{Value}
 use Rattle.tables_groups.specs.declared.keyed.Keyed.{Keyed}
 use Rattle.tables_groups.specs.declared.packed_key.PackedKey.{PackedKey}
-use Rattle.tables_groups.specs.Inside.Entries.{entry_at}
-use Rattle.tables_groups.specs.Inside.Group.{GroupState}
-use Rattle.tables_groups.specs.Inside.Keys.{key_in}
+use Rattle.tables_groups.specs.Entries.{entry_at}
+use Rattle.tables_groups.specs.Group.{GroupState}
+use Rattle.tables_groups.specs.Keys.{key_in}
 
 -- whether the key of one thing is before that of another one
 abbrev pub is_before : {T : Type 0} → Keyed T → Keyed T → Bool

@@ -1,8 +1,8 @@
 -- Shards of two tables that are put together, in pairs.
 use Rattle.std.specs.Prelude.{◌≡◌, true}
 use Rattle.semantics.specs.Groups.{Key}
-use Rattle.tables_groups.specs.Inside.Shards.{contents_in}
-use Rattle.tables_groups.specs.Inside.Table.{CanJoin, IsJoined}
+use Rattle.tables_groups.specs.Shards.{contents_in}
+use Rattle.tables_groups.specs.Table.{CanJoin, IsJoined}
 use Rattle.tables_groups.specs.declared.pairs.Pair.{Pair}
 
 -- the shard can take the groups of the other one

@@ -4,8 +4,9 @@ use Rattle.std.specs.Prelude.{List, ◌++◌, map}
 use Rattle.semantics.specs.Found.{GroupSummary}
 use Rattle.tables_groups.specs.declared.group.Group.{Group}
 use Rattle.tables_groups.specs.GroupSummaries.{group_summary_in}
-use Rattle.tables_groups.specs.Inside.Group.{GroupState, state_summary}
-use Rattle.tables_groups.specs.Inside.Table.{entries_by_key}
+use Rattle.tables_groups.specs.Group.{GroupState}
+use Rattle.tables_groups.specs.Inside.Group.{state_summary}
+use Rattle.tables_groups.specs.Table.{entries_by_key}
 
 -- the summaries of the groups of entries
 abbrev pub entry_summaries : List (PackedKey × GroupState) → List GroupSummary

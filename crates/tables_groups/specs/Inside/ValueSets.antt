@@ -1,7 +1,8 @@
 -- The sets of different values of the code.
-use Rattle.std.specs.Prelude.{List, [], ◌∷◌}
+use Rattle.std.specs.Prelude.{List, ◌∷◌, []}
 use Rattle.values.specs.declared.value.Value.{Value}
-use Rattle.tables_groups.specs.Inside.Values.{Values, values_in}
+use Rattle.tables_groups.specs.Values.{Values}
+use Rattle.tables_groups.specs.Inside.Values.{values_in}
 use Rattle.tables_groups.specs.declared.value_set.ValueSet.{ValueSet}
 use Rattle.tables_groups.specs.declared.value_set.ValueSet.TheVariants as value_set
 

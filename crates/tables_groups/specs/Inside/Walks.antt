@@ -2,7 +2,7 @@
 use Rattle.tables_groups.specs.declared.packed_key.PackedKey.{PackedKey}
 use Rattle.std.specs.Prelude.{List}
 use Rattle.std.specs.List.{flat_map}
-use Rattle.tables_groups.specs.Inside.Group.{GroupState}
+use Rattle.tables_groups.specs.Group.{GroupState}
 use Rattle.tables_groups.specs.declared.walk.Walk.{Walk}
 
 -- the entries that walks have not come to, one walk after the other

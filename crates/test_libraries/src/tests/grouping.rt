@@ -5,7 +5,7 @@ ghost use Rattle.tables_groups.specs.Functions.{aggregate_of};
 ghost use Rattle.semantics.specs.Groups.{Row, value_at};
 ghost use Rattle.tables_groups.specs.Rows.{IsNarrow, IsNarrowRow};
 ghost use Rattle.semantics.specs.Aggregates.{is_present};
-ghost use Rattle.tables_groups.specs.Inside.Table.{HasFewRecords, IsTableOf};
+ghost use Rattle.tables_groups.specs.Table.{HasFewRecords, IsTableOf};
 
 use query_resolve::{ColumnFunction, FilteredFunction};
 use std::alloc::{AllocError, Global};

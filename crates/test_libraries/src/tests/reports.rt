@@ -1,5 +1,5 @@
 //! The report and the refused list of one input, and the laws.
-ghost use Rattle.std.specs.Prelude.{IfOk};
+ghost use Rattle.std.specs.Prelude.{IfOk, ◌<◌, ◌^◌, length};
 ghost use Rattle.tables.specs.Partials.{IsPartialOf};
 ghost use Rattle.tables.specs.Planned.{IsFinishOf};
 
@@ -54,9 +54,17 @@ struct Texts {
     list: Vec<u8>,
 }
 
+/// The result over lines that are one piece.
+fn result_of(alloc: Global, plan: &Plan, lines: &[u8]) -> Result<Partial, AllocError>
+    requires { length lines.now < 2 ^ 63 }
+    ensures { IfOk result (IsPartialOf plan.now) }
+{
+    Partial::fold_piece(alloc, plan, 0, lines)
+}
+
 /// The groups of a result of the plan over some pieces.
 fn finish(plan: &Plan, partial: Partial) -> Result<Groups, AllocError>
-    requires { IsPartialOf plan.now.fields plan.now.query partial }
+    requires { IsPartialOf plan.now partial }
     ensures { IfOk result (IsFinishOf plan.now partial) }
 {
     sound_law();
@@ -65,7 +73,7 @@ fn finish(plan: &Plan, partial: Partial) -> Result<Groups, AllocError>
 
 /// What is written of the lines: the report, and the list.
 fn write_texts<H: Threads + Sync>(rt: &H, alloc: Global, plan: &Plan) -> Result<Texts, AllocError> {
-    let partial = Partial::fold_piece(alloc, plan, 0, LINES)?;
+    let partial = result_of(alloc, plan, LINES)?;
     let groups = finish(plan, partial)?;
     let report = report_on(alloc, &groups, plan)?;
     let report_by_hands = report_among(rt, alloc, &groups, plan, 3)?;

@@ -6,6 +6,7 @@ ghost use Rattle.tables.specs.Partials.{IsPartialOf, StandsForInput};
 
 use super::partials::{
     BY_D, BY_D_AND_R, UNGROUPED, assert_groups, assert_two_found, plan_of, plan_or_refused,
+    result_of_piece, result_with_piece,
 };
 use super::reference::{Findings, findings_of};
 use lines::LineFault;
@@ -99,7 +100,7 @@ pub fn has_few_lines(bytes: &[u8]) -> bool
 /// The result over an input: over no pieces where it is empty, and else over one.
 pub fn over(alloc: Global, plan: &Plan, input: &[u8]) -> Result<Partial, AllocError>
     ensures { IfOk result (λ partial.
-        StandsForInput plan.now.fields plan.now.query partial input.now) }
+        StandsForInput plan.now partial input.now) }
 {
     if input.is_empty() {
         return Partial::empty(alloc, plan);
@@ -116,7 +117,7 @@ fn follow(
     rest: &[u8],
 ) -> Result<Partial, AllocError>
     requires { AreWholeLines front.now }
-    ensures { IfOk result (IsPartialOf plan.now.fields plan.now.query) }
+    ensures { IfOk result (IsPartialOf plan.now) }
 {
     let behind = over(alloc, plan, rest)?;
     match over(alloc, plan, front) {
@@ -143,7 +144,7 @@ pub fn follow_by_hands<H: Abort + Threads + Sync>(
 ) -> Result<Partial, AllocError>
     requires front { AreWholeLines front.now }
     requires hands { 0 < count }
-    ensures { IfOk result (IsPartialOf plan.now.fields plan.now.query) }
+    ensures { IfOk result (IsPartialOf plan.now) }
 {
     let behind = over(alloc, plan, rest)?;
     match over(alloc, plan, front) {
@@ -175,7 +176,7 @@ fn folded_behind(
     rest: &[u8],
 ) -> Result<Partial, AllocError>
     requires { AreWholeLines front.now }
-    ensures { IfOk result (IsPartialOf plan.now.fields plan.now.query) }
+    ensures { IfOk result (IsPartialOf plan.now) }
 {
     let whole = over(alloc, plan, front)?;
     assert!(rt; whole.lines() < 1 << 62);
@@ -191,12 +192,12 @@ fn folded_onto_one_piece(
     front: &[u8],
     rest: &[u8],
 ) -> Result<Partial, AllocError>
-    ensures { IfOk result (IsPartialOf plan.now.fields plan.now.query) }
+    ensures { IfOk result (IsPartialOf plan.now) }
 {
     let whole = over(alloc, plan, front)?.in_one_piece()?;
     assert!(rt; whole.lines() < 1 << 62);
     assert!(rt; has_few_lines(rest));
-    whole.fold_onto(plan, 1, rest)
+    result_with_piece(plan, whole, 1, rest)
 }
 
 /// Asserts that a result is that of an input in two parts.
@@ -208,7 +209,7 @@ fn assert_found(
     parted: &Parted,
     wanted: &Findings,
 )
-    requires { IsPartialOf plan.now.fields plan.now.query partial }
+    requires { IsPartialOf plan.now partial }
 {
     assert_eq!(rt; partial.lines(), parted.lines);
     assert_eq!(rt; partial.refused(), parted.refused.len() as u64);
@@ -224,7 +225,7 @@ fn assert_followed<H: Abort + Threads + Sync>(rt: &H, alloc: Global, plan: &Plan
     let mut input = parted.front.to_vec(alloc).expect(rt, "memory");
     input.extend_from_slice(parted.rest).expect(rt, "memory");
     let wanted = findings_of(rt, alloc, plan, input.as_slice());
-    let whole = Partial::fold_piece(alloc, plan, 0, input.as_slice()).expect(rt, "memory");
+    let whole = result_of_piece(alloc, plan, 0, input.as_slice()).expect(rt, "memory");
     assert_found(rt, alloc, plan, whole, parted, &wanted);
     assert!(rt; are_whole_lines(parted.front));
     let both = follow(rt, alloc, plan, parted.front, parted.rest).expect(rt, "memory");
@@ -253,7 +254,7 @@ fn followed_like_the_whole(rt: HostRuntime) {
 
 /// Asserts that a result is that of the input with groups in both parts, or memory was refused.
 fn assert_both_or_refused(rt: &impl Abort, plan: &Plan, both: Result<Partial, AllocError>)
-    requires { IfOk both (IsPartialOf plan.now.fields plan.now.query) }
+    requires { IfOk both (IsPartialOf plan.now) }
 {
     if let Ok(both) = both {
         assert!(rt; both.lines() == 5 && both.refused() == 2);

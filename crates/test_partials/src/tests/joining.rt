@@ -3,7 +3,9 @@ ghost use Rattle.std.specs.Prelude.{◌<◌, IfOk};
 ghost use Rattle.tables.specs.Partials.{IsPartialOf};
 
 use super::following::{are_whole_lines, follow_by_hands, has_few_lines};
-use super::partials::{BY_D, finish, merge_by_hands, plan_of, sorted_rows};
+use super::partials::{
+    BY_D, finish, merge_by_hands, plan_of, result_of_piece, result_with_piece, sorted_rows,
+};
 use query::Plan;
 use std::alloc::{AllocError, Global};
 use std::marker::Sync;
@@ -34,7 +36,7 @@ fn begun_by_hands<H: Abort + Threads + Sync>(
     piece: &[u8],
     count: usize,
 ) -> Result<Partial, AllocError>
-    ensures { IfOk result (IsPartialOf plan.now.fields plan.now.query) }
+    ensures { IfOk result (IsPartialOf plan.now) }
 {
     let begun = Partial::empty_by(
         alloc,
@@ -47,7 +49,7 @@ fn begun_by_hands<H: Abort + Threads + Sync>(
     )?;
     assert!(rt; begun.lines() < 1 << 62);
     assert!(rt; has_few_lines(piece));
-    begun.fold_onto(plan, index, piece)
+    result_with_piece(plan, begun, index, piece)
 }
 
 /// The result over two pieces, put together by so many hands; the second one begins as so many others begin it.
@@ -61,7 +63,7 @@ fn merged_by_hands<H: Abort + Threads + Sync>(
     others: usize,
 ) -> Result<Partial, AllocError>
     requires hands { 0 < count }
-    ensures { IfOk result (IsPartialOf plan.now.fields plan.now.query) }
+    ensures { IfOk result (IsPartialOf plan.now) }
 {
     let behind = begun_by_hands(rt, alloc, plan, 1, second, others)?;
     match begun_by_hands(rt, alloc, plan, 0, first, count) {
@@ -89,7 +91,7 @@ fn assert_finds<H: Abort + Threads + Sync>(
     count: usize,
     wanted: &Groups,
 )
-    requires partial { IsPartialOf plan.now.fields plan.now.query partial }
+    requires partial { IsPartialOf plan.now partial }
     requires hands { 0 < count }
 {
     sound_law();
@@ -150,7 +152,7 @@ fn joined_by_hands_like_the_whole(rt: HostRuntime) {
     let mut input = front.clone().expect(&rt, "memory");
     input.push_str(rest.as_str()).expect(&rt, "memory");
     let plan = plan_of(&rt, alloc, BY_D);
-    let whole = Partial::fold_piece(alloc, &plan, 0, input.as_bytes()).expect(&rt, "memory");
+    let whole = result_of_piece(alloc, &plan, 0, input.as_bytes()).expect(&rt, "memory");
     let wanted = finish(&plan, whole).expect(&rt, "memory");
     assert_eq!(rt; wanted.rows().len(), 9000);
     let (front, rest) = (front.as_bytes(), rest.as_bytes());

@@ -1,5 +1,6 @@
 //! Partial results over pieces of an input, merged in several orders.
-ghost use Rattle.std.specs.Prelude.{◌≤◌, ◌<◌, ◌^◌, length, IfOk};
+ghost use Rattle.std.specs.Prelude.{◌+◌, ◌≤◌, ◌<◌, ◌^◌, length, IfOk};
+ghost use Rattle.semantics.specs.Lines.{lines};
 ghost use Rattle.std.proofs.Props.{props};
 ghost use Rattle.tables.specs.Partials.{IsPartialOf};
 
@@ -74,9 +75,9 @@ pub fn plan_of(rt: &impl Abort, alloc: Global, text: &str) -> Plan {
 
 /// The result over the pieces of both, which are of the query of a plan.
 fn merge(rt: &impl Abort, plan: &Plan, left: Partial, right: Partial) -> Result<Partial, AllocError>
-    requires left { IsPartialOf plan.now.fields plan.now.query left }
-    requires right { IsPartialOf plan.now.fields plan.now.query right }
-    ensures { IfOk result (λ merged. IsPartialOf plan.now.fields plan.now.query merged) }
+    requires left { IsPartialOf plan.now left }
+    requires right { IsPartialOf plan.now right }
+    ensures { IfOk result (λ merged. IsPartialOf plan.now merged) }
 {
     assert!(rt; left.same_shape(&right));
     assert!(rt; left.lines() + right.lines() < 1 << 63);
@@ -91,10 +92,10 @@ pub fn merge_by_hands<H: Abort + Threads + Sync>(
     right: Partial,
     count: usize,
 ) -> Result<Partial, AllocError>
-    requires left { IsPartialOf plan.now.fields plan.now.query left }
-    requires right { IsPartialOf plan.now.fields plan.now.query right }
+    requires left { IsPartialOf plan.now left }
+    requires right { IsPartialOf plan.now right }
     requires hands { 0 < count }
-    ensures { IfOk result (λ merged. IsPartialOf plan.now.fields plan.now.query merged) }
+    ensures { IfOk result (λ merged. IsPartialOf plan.now merged) }
 {
     assert!(rt; left.same_shape(&right));
     assert!(rt; left.lines() + right.lines() < 1 << 63);
@@ -108,6 +109,33 @@ pub fn merge_by_hands<H: Abort + Threads + Sync>(
     )
 }
 
+/// The result over the bytes of one piece, or want of memory.
+pub fn result_of_piece(
+    alloc: Global,
+    plan: &Plan,
+    index: u32,
+    bytes: &[u8],
+) -> Result<Partial, AllocError>
+    requires { length bytes.now < 2 ^ 63 }
+    ensures { IfOk result (IsPartialOf plan.now) }
+{
+    Partial::fold_piece(alloc, plan, index, bytes)
+}
+
+/// The result over the pieces of another one and one more, or want of memory.
+pub fn result_with_piece(
+    plan: &Plan,
+    before: Partial,
+    index: u32,
+    bytes: &[u8],
+) -> Result<Partial, AllocError>
+    requires of_plan { IsPartialOf plan.now before }
+    requires few { before.lines + length (lines bytes.now) < 2 ^ 63 }
+    ensures { IfOk result (IsPartialOf plan.now) }
+{
+    before.fold_onto(plan, index, bytes)
+}
+
 /// The result over a piece of an input.
 fn fold_piece(
     rt: &impl Abort,
@@ -117,13 +145,13 @@ fn fold_piece(
     index: usize,
     piece: &Piece,
 ) -> Partial
-    ensures { IsPartialOf plan.now.fields plan.now.query result }
+    ensures { IsPartialOf plan.now result }
 {
     let bytes = input
         .get(piece.start..piece.stop)
         .expect(rt, "a piece of the input");
     let index = u32::try_from(index).expect(rt, "few pieces");
-    Partial::fold_piece(alloc, plan, index, bytes).expect(rt, "memory")
+    result_of_piece(alloc, plan, index, bytes).expect(rt, "memory")
 }
 
 /// Where a list of pieces is parted in two, which are merged apart.
@@ -162,7 +190,7 @@ fn merge_pieces(
     first: usize,
     parting: Parting,
 ) -> Partial
-    ensures { IsPartialOf plan.now.fields plan.now.query result }
+    ensures { IsPartialOf plan.now result }
 {
     if pieces.len() < 2 {
         let none = Partial::empty(alloc, plan).expect(rt, "memory");
@@ -581,7 +609,7 @@ pub fn assert_two_found(rt: &impl Abort, groups: &Groups, refused: &[(u64, LineF
 
 /// What is found of the four lines by a result over them, or want of memory.
 fn assert_four_or_refused(rt: &impl Abort, plan: &Plan, partial: Result<Partial, AllocError>)
-    requires { IfOk partial (IsPartialOf plan.now.fields plan.now.query) }
+    requires { IfOk partial (IsPartialOf plan.now) }
 {
     let Ok(partial) = partial else {
         return;
@@ -598,7 +626,7 @@ fn assert_four_or_refused(rt: &impl Abort, plan: &Plan, partial: Result<Partial,
 #[test]
 fn refusal_of_fold_piece(rt: HostRuntime) {
     if let Some(plan) = plan_or_refused(&rt, rt.alloc(), BY_D) {
-        let folded = Partial::fold_piece(rt.alloc(), &plan, 0, FOUR);
+        let folded = result_of_piece(rt.alloc(), &plan, 0, FOUR);
         assert_four_or_refused(&rt, &plan, folded);
         drop(plan);
     }
@@ -606,16 +634,16 @@ fn refusal_of_fold_piece(rt: HostRuntime) {
 
 /// The result over the first of the four lines.
 fn first_folded(alloc: Global, plan: &Plan) -> Result<Partial, AllocError>
-    ensures { IfOk result (IsPartialOf plan.now.fields plan.now.query) }
+    ensures { IfOk result (IsPartialOf plan.now) }
 {
-    Partial::fold_piece(alloc, plan, 0, &FOUR[..FIRST_LEN])
+    result_of_piece(alloc, plan, 0, &FOUR[..FIRST_LEN])
 }
 
 /// Two pieces of the four lines merged.
 pub fn two_merged(rt: &impl Abort, alloc: Global, plan: &Plan) -> Result<Partial, AllocError>
-    ensures { IfOk result (IsPartialOf plan.now.fields plan.now.query) }
+    ensures { IfOk result (IsPartialOf plan.now) }
 {
-    let second = Partial::fold_piece(alloc, plan, 1, &FOUR[FIRST_LEN..])?;
+    let second = result_of_piece(alloc, plan, 1, &FOUR[FIRST_LEN..])?;
     match first_folded(alloc, plan) {
         Ok(first) => merge(rt, plan, second, first),
         Err(refused) => {
@@ -641,7 +669,7 @@ fn first_by_hands<H: Abort + Threads + Sync>(
     alloc: Global,
     plan: &Plan,
 ) -> Result<Partial, AllocError>
-    ensures { IfOk result (IsPartialOf plan.now.fields plan.now.query) }
+    ensures { IfOk result (IsPartialOf plan.now) }
 {
     let begun = Partial::empty_by(
         alloc,
@@ -653,7 +681,7 @@ fn first_by_hands<H: Abort + Threads + Sync>(
         },
     )?;
     assert!(rt; begun.lines() < 1 << 62);
-    begun.fold_onto(plan, 0, &FOUR[..FIRST_LEN])
+    result_with_piece(plan, begun, 0, &FOUR[..FIRST_LEN])
 }
 
 /// The same, where several hands put the tables together.
@@ -662,9 +690,9 @@ fn two_merged_by_hands<H: Abort + Threads + Sync>(
     alloc: Global,
     plan: &Plan,
 ) -> Result<Partial, AllocError>
-    ensures { IfOk result (IsPartialOf plan.now.fields plan.now.query) }
+    ensures { IfOk result (IsPartialOf plan.now) }
 {
-    let second = Partial::fold_piece(alloc, plan, 1, &FOUR[FIRST_LEN..])?;
+    let second = result_of_piece(alloc, plan, 1, &FOUR[FIRST_LEN..])?;
     match first_by_hands(rt, alloc, plan) {
         Ok(first) => merge_by_hands(rt, plan, second, first, 3),
         Err(refused) => {
@@ -681,7 +709,7 @@ fn assert_four_by_hands<H: Abort + Threads + Sync>(
     plan: &Plan,
     partial: Result<Partial, AllocError>,
 )
-    requires { IfOk partial (IsPartialOf plan.now.fields plan.now.query) }
+    requires { IfOk partial (IsPartialOf plan.now) }
 {
     let Ok(partial) = partial else {
         return;
@@ -714,11 +742,11 @@ fn refusal_of_merge_by(rt: HostRuntime) {
 
 /// A piece of the four lines folded onto the result over the one before.
 fn folded_on(rt: &impl Abort, alloc: Global, plan: &Plan) -> Result<Partial, AllocError>
-    ensures { IfOk result (IsPartialOf plan.now.fields plan.now.query) }
+    ensures { IfOk result (IsPartialOf plan.now) }
 {
     let first = first_folded(alloc, plan)?;
     assert!(rt; first.lines() < 1 << 62);
-    first.fold_onto(plan, 1, &FOUR[FIRST_LEN..])
+    result_with_piece(plan, first, 1, &FOUR[FIRST_LEN..])
 }
 
 /// The same of a piece folded onto a result: the result over both, or want of memory.
@@ -739,7 +767,7 @@ fn finished_or_refused(alloc: Global, plan: &Plan) -> Option<Groups> {
 
 /// The groups of a result of the plan over some pieces.
 pub fn finish(plan: &Plan, partial: Partial) -> Result<Groups, AllocError>
-    requires { IsPartialOf plan.now.fields plan.now.query partial }
+    requires { IsPartialOf plan.now partial }
 {
     sound_law();
     partial.finish(plan)

@@ -6,6 +6,7 @@ ghost use Rattle.tables.specs.Planned.{AreGroupingColumns};
 
 use super::partials::{
     BY_D, BY_D_AND_R, FOUR, INPUTS, is_row, made_up_input, plan_of, plan_or_refused,
+    result_of_piece,
 };
 use super::reference::{Row, rows_under};
 use query::Plan;
@@ -20,7 +21,7 @@ const THREE: &[u8] =
 
 /// The groups of a result of the plan over some pieces, rolled to the empty set.
 fn roll_to_one(plan: &Plan, partial: &Partial) -> Result<Vec<Group>, AllocError>
-    requires { IsPartialOf plan.now.fields plan.now.query partial.now }
+    requires { IsPartialOf plan.now partial.now }
 {
     sound_law();
     partial.roll(plan, &[])
@@ -32,7 +33,7 @@ fn rolled_to_a_set_that_is_not_listed(rt: HostRuntime) {
     let alloc = rt.alloc();
     let text = "SELECT COUNT(DISTINCT d) FROM lines GROUP BY GROUPING SETS ((r), (d))";
     let plan = plan_of(&rt, alloc, text);
-    let partial = Partial::fold_piece(alloc, &plan, 0, THREE).expect(&rt, "memory");
+    let partial = result_of_piece(alloc, &plan, 0, THREE).expect(&rt, "memory");
     let groups = roll_to_one(&plan, &partial).expect(&rt, "memory");
     assert_eq!(rt; groups.len(), 1);
     for group in &groups {
@@ -72,7 +73,7 @@ fn assert_rolled(
     set: &[usize],
     wanted: &[Row],
 )
-    requires { IsPartialOf plan.now.fields plan.now.query partial.now }
+    requires { IsPartialOf plan.now partial.now }
 {
     assert!(rt; are_grouping_columns(plan, set));
     sound_law();
@@ -98,7 +99,7 @@ fn rolled_like_reference(rt: HostRuntime) {
         for seed in 0..INPUTS {
             let input = made_up_input(alloc, seed).expect(&rt, "memory");
             let input = input.as_bytes();
-            let partial = Partial::fold_piece(alloc, &plan, 0, input).expect(&rt, "memory");
+            let partial = result_of_piece(alloc, &plan, 0, input).expect(&rt, "memory");
             for set in SETS {
                 let wanted = rows_under(&rt, alloc, &plan, set, input);
                 assert_rolled(&rt, alloc, &plan, &partial, set, wanted.as_slice());
@@ -113,7 +114,7 @@ fn rolled_like_reference(rt: HostRuntime) {
 #[test]
 fn refusal_of_roll(rt: HostRuntime) {
     if let Some(plan) = plan_or_refused(&rt, rt.alloc(), BY_D) {
-        if let Ok(partial) = Partial::fold_piece(rt.alloc(), &plan, 0, FOUR) {
+        if let Ok(partial) = result_of_piece(rt.alloc(), &plan, 0, FOUR) {
             if let Ok(groups) = roll_to_one(&plan, &partial) {
                 let [group] = groups.as_slice() else {
                     panic!(rt; "not one group");

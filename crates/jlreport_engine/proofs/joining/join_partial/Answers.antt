@@ -7,7 +7,7 @@ use Rattle.jlreport_engine.proofs.joining.join_partial.Goals as goal
 pub returns-clause-join : goal.returns-clause-join
 returns-clause-join g c =
     let joined = c.in_ok-whole.ensures in
-    is-partial-join c.write_whole_part.result c.map_err.result c.args.options.max_refused c.args.plan.now.fields c.args.plan.now.query (g.R.Read.remaining c.args.reader) c.in_ok-whole.whole
+    is-partial-join c.write_whole_part.result c.map_err.result c.args.options.max_refused c.args.plan.now (g.R.Read.remaining c.args.reader) c.in_ok-whole.whole
     (g.O.Write.contents c.args.out.now) (g.O.Write.contents c.write_whole_part.new.out)
     (answers-run c.write_whole_part.result c.map_err.result c.map_err.ensures.cases) c.write_whole_part.ensures.run joined.within joined.stands
 
@@ -22,7 +22,7 @@ returns-clause-started g c =
 
 pub returns-in_err-whole-clause-join : goal.returns-in_err-whole-clause-join
 returns-in_err-whole-clause-join g c =
-    partial-join-stopped c.from_residual-in_err-whole.result c.in_err-whole.field-0.0 c.args.options.max_refused c.args.plan.now.fields c.args.plan.now.query (g.R.Read.remaining c.args.reader)
+    partial-join-stopped c.from_residual-in_err-whole.result c.in_err-whole.field-0.0 c.args.options.max_refused c.args.plan.now (g.R.Read.remaining c.args.reader)
     (g.O.Write.contents c.args.out.now) c.from_residual-in_err-whole.ensures.1 c.in_err-whole.ensures.stops
 
 pub returns-in_err-whole-clause-reads : goal.returns-in_err-whole-clause-reads
@@ -35,9 +35,9 @@ returns-in_err-whole-clause-started g c = started-stopped c.from_residual-in_err
 
 pub returns-in_err-seed-clause-join : goal.returns-in_err-seed-clause-join
 returns-in_err-seed-clause-join g c =
-    partial-join-stopped c.from_residual.result c.in_err-seed.field-0.0 c.args.options.max_refused c.args.plan.now.fields c.args.plan.now.query (g.R.Read.remaining c.args.reader)
+    partial-join-stopped c.from_residual.result c.in_err-seed.field-0.0 c.args.options.max_refused c.args.plan.now (g.R.Read.remaining c.args.reader)
     (g.O.Write.contents c.args.out.now) c.from_residual.ensures.1
-    (join-unseeded c.in_err-seed.field-0.0 c.args.options.max_refused c.args.plan.now.fields c.args.plan.now.query (g.R.Read.remaining c.args.reader) c.in_err-seed.ensures)
+    (join-unseeded c.in_err-seed.field-0.0 c.args.options.max_refused c.args.plan.now (g.R.Read.remaining c.args.reader) c.in_err-seed.ensures)
 
 pub returns-in_err-seed-clause-reads : goal.returns-in_err-seed-clause-reads
 returns-in_err-seed-clause-reads g c =

@@ -1,7 +1,7 @@
 use Rattle.std.proofs.Common.{subst}
 use Rattle.std.specs.Prelude.{IfErr, OnOk}
 use Rattle.semantics.specs.Run.{IsWithin}
-use Rattle.jlreport_engine.specs.Joined.{IsOver}
+use Rattle.jlreport_engine.specs.Inside.Joined.{IsOver}
 use Rattle.jlreport_engine.proofs.Joins.{IsRead, of-mapped, of-over, of-read, of-refusal}
 use Rattle.jlreport_engine.proofs.joining.join_within.Goals as goal
 

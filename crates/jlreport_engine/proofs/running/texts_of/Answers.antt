@@ -8,14 +8,13 @@ use Rattle.jlreport_engine.proofs.running.texts_of.Goals as goal
 
 pub returns-clause-report : goal.returns-clause-report
 returns-clause-report g c = λ input whole.
-    let fields = c.args.plan.now.fields in
-    let q = c.args.plan.now.query in
+    let plan = c.args.plan.now in
     let groups = c.in_ok-groups.groups in
     let is = c.in_ok-groups.ensures.whole input whole.pieces whole.stands whole.cut in
     let fit = c.in_ok-groups.ensures.fit in
-    let blind = c.arranged_law.ensures fields q groups.found fit
-    (query_found fields q (valid_records fields input)) is.rows in
-    c.in_ok-report.ensures ∙ ap (λ rows. report_bytes q.items (map (row_shown fields q) rows)) (sym blind)
+    let blind = c.arranged_law.ensures plan.fields plan.query groups.found fit
+    (query_found plan.fields plan.query (valid_records plan.fields input)) is.rows in
+    c.in_ok-report.ensures ∙ ap (λ rows. report_bytes plan.query.items (map (row_shown plan.fields plan.query) rows)) (sym blind)
 
 pub returns-clause-refused : goal.returns-clause-refused
 returns-clause-refused g c = λ input whole.

@@ -6,7 +6,7 @@ use Rattle.jlreport_engine.proofs.running.write_whole.Goals as goal
 
 pub returns-clause-run : goal.returns-clause-run
 returns-clause-run g c = λ limit known within stands.
-    run-done _ limit c.args.plan.now.fields c.args.plan.now.query known c.args.whole c.as_slice.result.now (refusals_of c.schema.result.now c.refused-refused.result.now)
+    run-done _ limit c.args.plan.now known c.args.whole c.as_slice.result.now (refusals_of c.schema.result.now c.refused-refused.result.now)
     (g.O.Write.contents c.args.out.now) (g.O.Write.contents c.put_both.new.out) (g.E.Write.contents c.args.err.now) (g.E.Write.contents c.put_both.new.err)
     (record { lines = c.lines.ensures.lines; refused = c.refused.ensures.refused; within = within }) stands
     (record {
@@ -17,7 +17,7 @@ returns-clause-run g c = λ limit known within stands.
 
 pub returns-in-Err-clause-run : goal.returns-in-Err-clause-run
 returns-in-Err-clause-run g c = λ limit known within stands.
-    run-unwritten c.in-Err.fault limit c.args.plan.now.fields c.args.plan.now.query known c.args.whole c.as_slice.result.now (refusals_of c.schema.result.now c.refused-refused.result.now)
+    run-unwritten c.in-Err.fault limit c.args.plan.now known c.args.whole c.as_slice.result.now (refusals_of c.schema.result.now c.refused-refused.result.now)
     (g.O.Write.contents c.args.out.now) (g.O.Write.contents c.put_both.new.out) (g.E.Write.contents c.args.err.now) (g.E.Write.contents c.put_both.new.err)
     within stands
     (record {
@@ -28,5 +28,5 @@ returns-in-Err-clause-run g c = λ limit known within stands.
 
 pub returns-in_err-report-clause-run : goal.returns-in_err-report-clause-run
 returns-in_err-report-clause-run g c = λ limit known within stands.
-    run-stopped c.from_residual.result OutOfMemory limit c.args.plan.now.fields c.args.plan.now.query known
+    run-stopped c.from_residual.result OutOfMemory limit c.args.plan.now known
     (g.O.Write.contents c.args.out.now) (g.E.Write.contents c.args.err.now) c.from_residual.ensures.1 tt

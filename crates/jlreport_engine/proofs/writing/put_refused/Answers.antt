@@ -2,7 +2,7 @@ use Rattle.std.proofs.Common.{[], subst, sym}
 use Rattle.std.proofs.lemmas.Result.{on_err_weaker, on_ok_weaker}
 use Rattle.std.specs.Io.KnownBytes.{Appends}
 use Rattle.semantics.specs.Run.{AppendsBeginning}
-use Rattle.jlreport_engine.specs.Written.{Sends}
+use Rattle.jlreport_engine.specs.Inside.Written.{Sends}
 use Rattle.jlreport_engine.proofs.Fronts.{on-err, went-well}
 use Rattle.jlreport_engine.proofs.Sending.{line-sent, list-begun, list-left, list-sent, sent-none}
 use Rattle.jlreport_engine.proofs.writing.put_refused.Goals as goal

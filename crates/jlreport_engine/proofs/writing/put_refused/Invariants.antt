@@ -1,6 +1,6 @@
 use Rattle.std.proofs.Common.{take}
 use Rattle.report.specs.Report.{refusals_of}
-use Rattle.jlreport_engine.specs.Written.{Sends}
+use Rattle.jlreport_engine.specs.Inside.Written.{Sends}
 use Rattle.jlreport_engine.proofs.writing.put_refused.Given as goal
 
 -- of the list so far the first bytes were written, and the others wait

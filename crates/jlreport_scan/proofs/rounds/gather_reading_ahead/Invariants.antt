@@ -1,4 +1,4 @@
-use Rattle.jlreport_scan.specs.Pieces.{IsAheadUnder, most_turns}
+use Rattle.jlreport_scan.specs.Inside.Pieces.{IsAheadUnder, most_turns}
 use Rattle.jlreport_scan.proofs.rounds.gather_reading_ahead.Given as goal
 
 abbrev pub invariant-loop-ahead : goal.invariant-loop-ahead

@@ -1,5 +1,5 @@
 use Rattle.std.proofs.Common.{◌≡◌, ◌∙◌, None, ap, subst, sym, arith}
-use Rattle.jlreport_scan.specs.Pieces.{IsUnder}
+use Rattle.jlreport_scan.specs.Inside.Pieces.{IsUnder}
 use Rattle.jlreport_scan.specs.Gathered.{limit_number}
 use Rattle.jlreport_scan.proofs.working.whole_of.Goals as goal
 

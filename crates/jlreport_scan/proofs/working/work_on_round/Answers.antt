@@ -1,4 +1,4 @@
-use Rattle.std.proofs.Common.{◌≡◌, ◌∙◌, ◌+◌, ℕ, inr, length, sym, ap, subst, arith}
+use Rattle.std.proofs.Common.{◌≡◌, ◌∙◌, ◌+◌, ℕ, List, inr, length, sym, ap, subst, arith}
 use Rattle.std.proofs.lemmas.Result.{err_from_is_err_and}
 use denote.Param.Send.{sendable}
 use Rattle.semantics.specs.Records.{refused_lines}
@@ -6,9 +6,9 @@ use Rattle.pool.specs.Fanned.{Settles}
 use Rattle.pool.specs.Totals.{sum_below}
 use Rattle.pool.proofs.Shares.{grown_within}
 use Rattle.query_plan.specs.Planned.{PlannedQuery}
-use Rattle.tables.specs.Denotations.{IsDenotation, denotation_from, meaning}
-use Rattle.tables.specs.Partials.{one_piece}
-use Rattle.tables.proofs.Denotations.{denotation-from_stands}
+use Rattle.tables.specs.Partials.{StandsFor, of_piece, one_piece}
+use Rattle.tables.specs.Pieces.{IndexedPiece, piece_from}
+use Rattle.tables.proofs.OnePiece.{as_one-stands}
 use Rattle.tables.proofs.Sharing.{parallel_sync, job_by_sync}
 use Rattle.jlreport_scan.proofs.Pooled.{IsJobOf, few-loads, grown-by, refused-whole, room-beside, stands-behind, under-of, under-same, weights-counted}
 use Rattle.jlreport_scan.proofs.Tallies.{few-refused}
@@ -25,9 +25,8 @@ fan_deal_onto-requires-clause-part g c κs within =
     let of = subst (IsJobOf plan c.args.round.now pieces.items) (sym c.new-job.ensures.job)
     record { plan_is = c.new.ensures.plan; input_is = c.new.ensures.input; pieces_are = c.new.ensures.pieces ∙ c.as_slice.ensures.value } in
     let x = c.requires.front in
-    let stands = c.in_ok-front.ensures.stands plan.fields plan.query x.0 x.1 in
-    subst (λ (p : PlannedQuery). IsDenotation p.fields p.query (meaning front)) (sym of.plan_is)
-    (one_piece x.0, denotation-from_stands plan.fields plan.query front (one_piece x.0) stands)
+    subst (λ (p : PlannedQuery). (pieces : List IndexedPiece) × StandsFor p front pieces) (sym of.plan_is)
+    (one_piece x.0, as_one-stands plan c.args.before front c.in_ok-front.ensures.stands x.0 x.1)
 
 pub fan_deal_onto-requires-clause-loads : goal.fan_deal_onto-requires-clause-loads
 fan_deal_onto-requires-clause-loads g c κs within =
@@ -39,7 +38,7 @@ fan_deal_onto-requires-clause-loads g c κs within =
     let few = few-loads c.args.scan.now.plan.now job.plan.now c.args.round.now job.input.now pieces.items job.pieces.now c.len-2.result c.args.before.lines
     of.plan_is of.input_is of.pieces_are count
     c.job_law.ensures.lines c.in_ok-pieces.ensures.lines c.requires.short in
-    let same = c.in_ok-front.ensures.lines in
+    let same = c.in_ok-front.ensures.groups.lines in
     omega (arith, few, same)
 
 pub fan_deal_onto-requires-clause-room : goal.fan_deal_onto-requires-clause-room
@@ -50,8 +49,8 @@ fan_deal_onto-requires-clause-room g c κs within =
     record { plan_is = c.new.ensures.plan; input_is = c.new.ensures.input; pieces_are = c.new.ensures.pieces ∙ c.as_slice.ensures.value } in
     let count : c.len-2.result ≡ length pieces.items = grind (arith, c.len-2.ensures, pieces.ok) in
     let fewer = c.in_ok-front.ensures.fewer in
-    let refused_lines = c.in_ok-front.ensures.refused in
-    let lines = c.in_ok-front.ensures.lines in
+    let refused_lines = c.in_ok-front.ensures.groups.refused in
+    let lines = c.in_ok-front.ensures.groups.lines in
     room-beside (λ share. share.sum) c.args.shares.items c.args.before.refused _
     (few-loads c.args.scan.now.plan.now job.plan.now c.args.round.now job.input.now pieces.items job.pieces.now c.len-2.result c.args.before.refused
     of.plan_is of.input_is of.pieces_are count
@@ -72,11 +71,11 @@ whole_of-requires g c =
     let count : n ≡ length pieces.items = grind (arith, c.len-2.ensures, pieces.ok) in
     let weights = weights-counted plan job.plan.now round job.input.now pieces.items job.pieces.now n
     of.plan_is of.input_is of.pieces_are count c.job_law.ensures.refused c.in_ok-pieces.ensures.lines in
-    let same = c.in_ok-front.ensures.refused in
+    let same = c.in_ok-front.ensures.groups.refused in
     let all = c.args.before.refused + length (refused_lines plan.fields round) in
     let fewer = c.in_ok-front.ensures.fewer in
-    let refused_is = c.in_ok-front.ensures.refused in
-    let lines_are = c.in_ok-front.ensures.lines in
+    let refused_is = c.in_ok-front.ensures.groups.refused in
+    let lines_are = c.in_ok-front.ensures.groups.lines in
     let short = c.requires.short in
     let few = few-refused plan.fields round in
     let limit = c.limit_of-limit.ensures in
@@ -97,7 +96,7 @@ returns-in_err-whole-clause-fault g c =
     let count : n ≡ length pieces.items = grind (arith, c.len-2.ensures, pieces.ok) in
     let weights = weights-counted plan job.plan.now round job.input.now pieces.items job.pieces.now n
     of.plan_is of.input_is of.pieces_are count c.job_law.ensures.refused c.in_ok-pieces.ensures.lines in
-    let same = c.in_ok-front.ensures.refused in
+    let same = c.in_ok-front.ensures.groups.refused in
     let all = c.args.before.refused + length (refused_lines plan.fields round) in
     let limit = c.limit_of-limit.ensures in
     let under = under-of front job.plan.now first job.input.now job.pieces.now n _ all c.in_ok-outcome.outcome (omega (arith, weights, same)) c.in_ok-outcome.ensures.decided in
@@ -117,7 +116,7 @@ returns-clause-whole g c =
     record { plan_is = c.new.ensures.plan; input_is = c.new.ensures.input; pieces_are = c.new.ensures.pieces ∙ c.as_slice.ensures.value } in
     let count : n ≡ length pieces.items = grind (arith, c.len-2.ensures, pieces.ok) in
     stands-behind c.args.before front plan job.plan.now first round job.input.now pieces.items job.pieces.now n _ c.in_ok-outcome.outcome c.in_ok-whole.whole
-    of.plan_is c.new-job.ensures.first of.input_is of.pieces_are count c.in_ok-pieces.ensures.few c.job_law.ensures.behind c.in_ok-pieces.ensures.cut c.in_ok-front.ensures.stands
+    of.plan_is c.new-job.ensures.first of.input_is of.pieces_are count c.in_ok-pieces.ensures.few c.job_law.ensures.whole_by c.in_ok-pieces.ensures.cut c.in_ok-front.ensures.stands
     c.in_ok-whole.ensures.whole c.in_ok-outcome.ensures.decided
 
 pub returns-clause-limit : goal.returns-clause-limit
@@ -137,8 +136,8 @@ returns-clause-reported g c =
     let r = refused-whole c.in_ok-front.front job.plan.now first job.input.now job.pieces.now c.len-2.result _ c.in_ok-outcome.outcome c.in_ok-whole.whole
     c.in_ok-whole.ensures.whole pooled.decided in
     let count = r.0 in
-    let same = c.in_ok-front.ensures.refused in
-    let weights : ℕ → ℕ = λ i. (denotation_from job.plan.now.fields job.plan.now.query first job.input.now job.pieces.now i).refused in
+    let same = c.in_ok-front.ensures.groups.refused in
+    let weights : ℕ → ℕ = λ i. (of_piece job.plan.now (piece_from first job.input.now job.pieces.now i)).refused in
     let dealt = ap (sum_below weights) pooled.deal.1 in
     grown-by (λ share. share.sum) c.in_ok-outcome.shares.items _ _ (omega (arith, count, same, dealt))
     (grown_within weights (λ share. share.sum) c.args.shares.items c.in_ok-outcome.hands.items c.in_ok-outcome.shares.items pooled.deal.0 pooled.reported c.args.before.refused c.requires.reported)

@@ -2,7 +2,7 @@ use Rattle.std.proofs.Common.{sym, ◌∙◌, ◌+◌, subst, arith}
 use Rattle.std.specs.Char.{encode_utf8}
 use Rattle.json.specs.Lex.{in_string}
 use Rattle.json.specs.Text.{after_high}
-use Rattle.lines_json.specs.Inside.{IsPartAt}
+use Rattle.lines_json.specs.Inside.Contents.{IsPartAt}
 use Rattle.lines_json.proofs.PartsAt.{low-at}
 use Rattle.lines_json.proofs.escapes.low_half_at.Goals as goal
 

@@ -1,6 +1,6 @@
 use Rattle.std.proofs.Common.{◌≡◌, ℕ, ◌<◌, Some, refl, sym, subst, arith}
 use Rattle.json.specs.Text.{short_escape}
-use Rattle.lines_json.specs.Inside.{IsShortEscape}
+use Rattle.lines_json.specs.Inside.Contents.{IsShortEscape}
 use Rattle.lines_json.proofs.escapes.short_escape.Goals as goal
 
 known : (letter x meant : ℕ) → letter ≡ x → x < 128 → meant < 128 → short_escape x ≡ Some meant → IsShortEscape letter meant

@@ -4,7 +4,7 @@ use Rattle.std.proofs.lemmas.Option.{IfSome_then}
 use Rattle.std.specs.Char.{encode_utf8}
 use Rattle.json.specs.Lex.{in_string}
 use Rattle.json.specs.Text.{after_u, is_low_surrogate}
-use Rattle.lines_json.specs.Inside.{IsPartAt}
+use Rattle.lines_json.specs.Inside.Contents.{IsPartAt}
 use Rattle.lines_json.proofs.PartsAt.{high-at, unit-at}
 use Rattle.lines_json.proofs.escapes.unit_at.Goals as goal
 

@@ -1,5 +1,5 @@
 use Rattle.std.proofs.Common.{◌||◌, ◌<◌, ap, arith, get_or, refl, sym, ◌∙◌}
-use Rattle.lines_json.specs.Inside.{is_word_end}
+use Rattle.lines_json.specs.Inside.Contents.{is_word_end}
 use Rattle.lines_json.proofs.Passed.{number-token}
 use Rattle.lines_json.proofs.numbers.numeral_end.Goals as goal
 

@@ -1,7 +1,7 @@
 use Rattle.std.proofs.Common.{ℕ, ◌-◌, ◌≤◌, List, length, drop}
 use Rattle.json.specs.Text.{plain}
 use Rattle.json.specs.Lex.{in_string}
-use Rattle.lines_json.specs.Inside.{IsPart}
+use Rattle.lines_json.specs.Inside.Contents.{IsPart}
 use Rattle.lines_json.proofs.strings.escaped_string_end.Given as goal
 
 -- the string means `bytes` so far

@@ -2,7 +2,7 @@ use Rattle.std.proofs.Common.{◌≡◌, ℕ, List, ◌+◌, ◌-◌, ◌++◌, 
 use Rattle.std.specs.List.{prefix_len}
 use Rattle.std.specs.Char.{encode_utf8}
 use Rattle.json.specs.Run.{is_plain}
-use Rattle.lines_json.specs.Inside.{IsEscapeAt}
+use Rattle.lines_json.specs.Inside.Contents.{IsEscapeAt}
 use Rattle.lines_json.proofs.PartsAt.{closed-at, escape-boundary, escape_behind, plain_behind}
 use Rattle.lines_json.proofs.strings.push_content.Goals as goal
 

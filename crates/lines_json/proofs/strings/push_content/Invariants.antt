@@ -2,7 +2,7 @@ use Rattle.std.proofs.Common.{◌≡◌, ℕ, ◌-◌, ◌++◌, ◌≤◌, List
 use Rattle.std.specs.Str.{IsCharBoundary}
 use Rattle.json.specs.Text.{plain}
 use Rattle.json.specs.Lex.{in_string}
-use Rattle.lines_json.specs.Inside.{IsPart}
+use Rattle.lines_json.specs.Inside.Contents.{IsPart}
 use Rattle.lines_json.proofs.strings.push_content.Given as goal
 
 -- the string means `bytes` so far, and these are pushed

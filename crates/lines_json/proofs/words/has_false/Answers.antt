@@ -1,6 +1,6 @@
 use Rattle.std.proofs.Common.{sym, ap, ◌∙◌, arith}
 use Rattle.std.proofs.lemmas.Bool.{true≢false}
-use Rattle.lines_json.specs.Inside.{is_word_end}
+use Rattle.lines_json.specs.Inside.Contents.{is_word_end}
 use Rattle.lines_json.proofs.NoNames.{letters-false}
 use Rattle.lines_json.proofs.Literals.{has-false}
 use Rattle.lines_json.proofs.words.has_false.Goals as goal

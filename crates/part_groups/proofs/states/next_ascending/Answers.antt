@@ -5,7 +5,7 @@ use Rattle.std.specs.Option.{option_copied}
 use Rattle.std.specs.Prelude.{slice_get}
 use Rattle.semantics.specs.Values.{Datum}
 use Rattle.values.specs.Datum.{data_of, datum_of}
-use Rattle.part_groups.specs.Known.{IsDifferentOf}
+use Rattle.part_groups.specs.Inside.Known.{IsDifferentOf}
 use Rattle.part_groups.specs.Reading.{Refuses, ascending_at, different_at}
 use Rattle.part_groups.proofs.Facts.{are_different, ascend-push}
 use Rattle.part_groups.proofs.Last.{last_of, last_of-from, last_of-push}

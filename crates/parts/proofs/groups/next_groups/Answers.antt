@@ -5,7 +5,7 @@ use Rattle.part_groups.specs.Groups.{shape_of}
 use Rattle.semantics.specs.Parts.{groups_values, text_of}
 use Rattle.part_groups.specs.Reading.{groups_at}
 use Rattle.part_groups.proofs.Loop.{groups_are_done, groups_end, groups_go_on}
-use Rattle.parts.specs.Gathering.{groups_of, key_of}
+use Rattle.parts.specs.Inside.Gathering.{groups_of, key_of}
 use Rattle.parts.specs.ReadingParts.{of_part}
 use Rattle.parts.proofs.OfGroups.{differs-more, hashed-group, refused-as_part}
 use Rattle.parts.proofs.groups.next_groups.Goals as goal

@@ -3,9 +3,9 @@ use Rattle.part_groups.specs.Groups.{shape_of}
 use Rattle.semantics.specs.Parts.{groups_values, text_of}
 use Rattle.part_groups.specs.Reading.{groups_at}
 use Rattle.part_groups.proofs.Loop.{with_front}
-use Rattle.parts.specs.Hashing.{HoldsText}
+use Rattle.parts.specs.Inside.Hashing.{HoldsText}
 use Rattle.tables.specs.Contents.{DiffersInGroups}
-use Rattle.parts.specs.Gathering.{IsGathering, groups_of, key_of}
+use Rattle.parts.specs.Inside.Gathering.{IsGathering, groups_of, key_of}
 use Rattle.parts.proofs.groups.next_groups.Given as goal
 
 abbrev pub invariant-loop : goal.invariant-loop

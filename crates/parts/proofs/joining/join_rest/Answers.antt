@@ -1,6 +1,7 @@
-use Rattle.std.proofs.Common.{◌≡◌, ◌≢◌, [], sym, ap, ◌∙◌, arith}
+use Rattle.std.proofs.Common.{◌≢◌, [], sym, ap, ◌∙◌, arith}
 use Rattle.std.proofs.lemmas.Result.{err_from_is_err_and}
-use Rattle.parts.specs.Reader.{IsKnown, stream_of}
+use Rattle.tables.specs.Partials.{both}
+use Rattle.parts.specs.Inside.Reader.{IsKnown, stream_of}
 use Rattle.parts.proofs.Joins.{a-fault, begins, no-more, one-more}
 use Rattle.parts.proofs.joining.join_rest.Goals as goal
 
@@ -27,6 +28,8 @@ loop-whole-preserved g c =
     let some : IsKnown c.loop-whole.reader → (stream_of c.has_line.new.self).left ≢ [] = λ here e. let none = (c.in_ok-has_line.ensures.none here).1 (ap (λ s. s.left) (sym (c.in_ok-has_line.ensures.same here)) ∙ e) in absurd cc in (
       one-more c.args.plan.now c.args.reader.now c.args.first c.loop-whole.reader c.loop-whole.part c.loop-whole.whole c.loop-whole.invariant.0 c.contents_law.ensures (stream_of c.has_line.new.self) c.next_numbered.new.reader c.in_ok-rest.rest c.in_ok-whole.whole
           (λ here. sym (c.in_ok-has_line.ensures.same here)) some (λ here. rest.known (c.in_ok-has_line.ensures.known here)) (λ here. rw c.lines-before.ensures.lines at (rest.read (c.in_ok-has_line.ensures.known here))) rest.sound rest.one
-          c.in_ok-whole.ensures.stands c.in_ok-whole.ensures.lines (c.in_ok-whole.ensures.sound c.args.plan.now c.loop-whole.invariant.0.sound rest.sound),
+          c.in_ok-whole.ensures.stands c.in_ok-whole.ensures.groups.lines
+          (c.sound_law.ensures.of_notes c.args.plan.now (both c.loop-whole.whole c.in_ok-rest.rest) c.in_ok-whole.whole
+          (c.sound_law.ensures.of_both c.args.plan.now c.loop-whole.whole c.in_ok-rest.rest c.loop-whole.invariant.0.sound rest.sound) c.in_ok-whole.ensures.groups),
       omega (arith, c.loop-whole.invariant.1, c.in_ok-has_line.ensures.line, rest.onward),
     )

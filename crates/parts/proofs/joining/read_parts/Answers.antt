@@ -6,7 +6,7 @@ use Rattle.std.specs.Str.{is_utf8}
 use Rattle.semantics.specs.Canonical.{canonical_text}
 use Rattle.values.specs.Schema.{IsSchema}
 use Rattle.part_text.proofs.Spellings.{utf8-held}
-use Rattle.parts.specs.Reader.{IsKnown, stream_of}
+use Rattle.parts.specs.Inside.Reader.{IsKnown, stream_of}
 use Rattle.parts.proofs.Answering.{known-all, known-fault, known-stands}
 use Rattle.parts.proofs.Takes.{known-taken, none-given}
 use Rattle.parts.proofs.joining.read_parts.Goals as goal

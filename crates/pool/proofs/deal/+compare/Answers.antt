@@ -3,7 +3,7 @@ use Rattle.crossbeam_deque.specs.Handles.{worker_view, view, Pass}
 use Rattle.std.specs.declared.alloc.Global.{Global}
 use Rattle.pool.specs.declared.view.View.{View}
 use Rattle.pool.specs.declared.view.Task.{Task}
-use Rattle.pool.specs.Inside.Rule.{lent_view}
+use Rattle.pool.specs.Steps.{lent_view}
 use Rattle.pool.specs.Seen.{Seen}
 use mathlib.Core.Option.{some, some-injective}
 use lib.ListN.{get_elem?}

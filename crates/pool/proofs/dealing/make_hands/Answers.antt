@@ -1,8 +1,8 @@
 use Rattle.std.proofs.Common.{◌≡◌, ◌∙◌, ◌<◌, suc, ◌+◌, ⊎_elim, sym, ap, subst, arith, refl, vec_len}
 use mathlib.Core.Option.{some, some-ne-none}
 use lib.ListN.{get_elem?}
-use Rattle.pool.specs.Inside.Views.{owned_first}
-use Rattle.pool.specs.Inside.Hands.{new_holding}
+use Rattle.pool.specs.Views.{owned_first}
+use Rattle.pool.specs.Hands.{new_holding}
 use Rattle.pool.specs.Settled.{Belongs}
 use Rattle.pool.specs.Inside.Assembly.{Gives, Gets}
 use Rattle.pool.specs.Assembly.{IsFresh}

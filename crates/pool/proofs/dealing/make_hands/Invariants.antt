@@ -4,7 +4,7 @@ use mathlib.Core.Option.{some}
 use lib.ListN.{get_elem?}
 use Rattle.std.specs.declared.alloc.Global.{Global}
 use Rattle.pool.specs.Seen.{Seen}
-use Rattle.pool.specs.Inside.Views.{Offer}
+use Rattle.pool.specs.Views.{Offer}
 use Rattle.pool.specs.Holding.{Holding}
 use Rattle.pool.specs.Settled.{Belongs}
 use Rattle.pool.specs.Inside.Assembly.{Gives, Gets}

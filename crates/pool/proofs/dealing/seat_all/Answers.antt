@@ -2,7 +2,7 @@ use Rattle.std.proofs.Common.{◌≡◌, ◌∙◌, ◌%◌, ◌<◌, ◌+◌, �
 use Rattle.std.proofs.lemmas.Nat.{mod_below}
 use Rattle.crossbeam_deque.proofs.Lists.{at_index}
 use Rattle.pool.specs.Seen.{Seen}
-use Rattle.pool.specs.Inside.Views.{Offer, next_seat, offer_with}
+use Rattle.pool.specs.Views.{Offer, next_seat, offer_with}
 use Rattle.pool.specs.Inside.Assembly.{Seating}
 use Rattle.pool.proofs.Assemblies.{seated_more, next_place}
 use Rattle.pool.proofs.dealing.seat_all.Goals as goal

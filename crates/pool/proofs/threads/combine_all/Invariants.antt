@@ -1,6 +1,6 @@
 use Rattle.std.proofs.Common.{◌≡◌, map}
 use Rattle.std.specs.Vec.Iter.{into_iter_items}
-use Rattle.pool.specs.Inside.Totals.{combination_of}
+use Rattle.pool.specs.Inside.Combination.{combination_of}
 use Rattle.pool.proofs.Parts.{Each}
 use Rattle.pool.proofs.threads.combine_all.Given as goal
 

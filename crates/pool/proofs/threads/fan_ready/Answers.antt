@@ -1,7 +1,7 @@
 use Rattle.std.proofs.Common.{◌≡◌, All, vec_len, length, map, sym, ◌∙◌, subst, ⊎_elim, inl, inr, arith}
 use Rattle.std.proofs.lemmas.Result.{err_from_is_err_and}
 use Rattle.pool.specs.Inside.Done.{hands_of}
-use Rattle.pool.specs.Inside.Totals.{combination_of}
+use Rattle.pool.specs.Inside.Combination.{combination_of}
 use Rattle.pool.specs.Outcomes.{Decides}
 use Rattle.pool.specs.Settled.{pieces_of}
 use Rattle.pool.proofs.Fans.{length-hands_of, no_thread_new}

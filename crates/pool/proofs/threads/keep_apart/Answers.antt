@@ -1,7 +1,7 @@
 use Rattle.std.proofs.Common.{◌∙◌, ℕ, sym, ap, subst, length, arith}
 use Rattle.std.proofs.lemmas.List.{with_items_is}
 use Rattle.pool.specs.Dealing.{times}
-use Rattle.pool.specs.Inside.Rule.{UpTo}
+use Rattle.pool.specs.Inside.Steps.{UpTo}
 use Rattle.pool.specs.Totals.{once_below}
 use Rattle.pool.specs.Settled.{AreAll, AllSpent, AreRun, numbers_of_all, pieces_of}
 use Rattle.pool.proofs.Fronts.{run_none_twice, run_each_once}

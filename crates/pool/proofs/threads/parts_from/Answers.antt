@@ -1,5 +1,5 @@
 use Rattle.std.proofs.Common.{map, sym, ap, ◌∙◌, subst, arith}
-use Rattle.pool.specs.Inside.Totals.{combination_of}
+use Rattle.pool.specs.Inside.Combination.{combination_of}
 use Rattle.pool.proofs.Parts.{Each, all_each, units_behind}
 use Rattle.pool.proofs.threads.parts_from.Goals as goal
 

@@ -1,5 +1,5 @@
 use Rattle.std.proofs.Common.{◌≡◌, map, vec_len}
-use Rattle.pool.specs.Inside.Totals.{combination_of}
+use Rattle.pool.specs.Inside.Combination.{combination_of}
 use Rattle.pool.proofs.Parts.{Each}
 use Rattle.pool.proofs.threads.parts_from.Given as goal
 

@@ -1,7 +1,8 @@
 use Rattle.std.proofs.Common.{◌+◌, ◌^◌, ◌<◌, ◌∷◌, length, drop, get_or, map, sym, ap, ◌∙◌, subst, arith}
 use Rattle.std.proofs.lemmas.List.{drop_more, drop_all}
-use Rattle.pool.specs.Inside.Done.{Worker, parts_of}
-use Rattle.pool.specs.Inside.Totals.{combination_of}
+use Rattle.pool.specs.Done.{Worker}
+use Rattle.pool.specs.Inside.Done.{parts_of}
+use Rattle.pool.specs.Inside.Combination.{combination_of}
 use Rattle.pool.proofs.Parts.{Each, each_of, light_fit, next_weight}
 use Rattle.pool.proofs.threads.weigh.Goals as goal
 

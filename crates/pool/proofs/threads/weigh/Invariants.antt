@@ -1,6 +1,6 @@
 use Rattle.std.proofs.Common.{◌≡◌, ◌+◌, ◌-◌, ◌^◌, ◌<◌, ◌≤◌, drop, map, min}
 use Rattle.pool.specs.Inside.Done.{parts_of}
-use Rattle.pool.specs.Inside.Totals.{combination_of}
+use Rattle.pool.specs.Inside.Combination.{combination_of}
 use Rattle.pool.proofs.Parts.{Each}
 use Rattle.pool.proofs.threads.weigh.Given as goal
 

@@ -1,5 +1,5 @@
 use Rattle.std.proofs.Common.{◌≡◌, ◌∷◌, [], ◌++◌, arith}
-use Rattle.pool.specs.Inside.Done.{Worker}
+use Rattle.pool.specs.Done.{Worker}
 use Rattle.pool.proofs.Fans.{hands_of-joined, sums_of-joined, parts_of-joined}
 use Rattle.pool.proofs.threads.workers_from.Goals as goal
 

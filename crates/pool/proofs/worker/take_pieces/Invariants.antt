@@ -1,5 +1,5 @@
 use Rattle.std.proofs.Common.{◌≡◌}
-use Rattle.pool.specs.Inside.Done.{Did, MayGoOn}
+use Rattle.pool.specs.Done.{Did, MayGoOn}
 use Rattle.pool.proofs.worker.take_pieces.Given as goal
 
 abbrev pub invariant-loop : goal.invariant-loop

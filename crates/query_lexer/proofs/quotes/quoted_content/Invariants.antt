@@ -1,7 +1,8 @@
 use denote.Text.{Utf8}
 use denote.Shadow.{shadow}
 use Rattle.std.proofs.Common.{◌≡◌, ◌≤◌, length, string_bytes}
-use Rattle.query_lexer.specs.Steps.{quoted_at, with_bytes}
+use Rattle.query_lexer.specs.Steps.{quoted_at}
+use Rattle.query_lexer.specs.Inside.Steps.{with_bytes}
 use Rattle.query_lexer.proofs.quotes.quoted_content.Given as goal
 
 abbrev pub invariant-loop-piece : goal.invariant-loop-piece

@@ -3,7 +3,7 @@ use Rattle.std.proofs.lemmas.Grind.{common_steps}
 use denote.Enum.Bare.{tag_one}
 use denote.Enum.Declared.{tag_of}
 use Rattle.semantics.specs.contracts.token.Word.{the_type}
-use Rattle.query_parser.specs.Fronts.{word_code}
+use Rattle.query_parser.specs.Inside.Fronts.{word_code}
 use Rattle.query_parser.proofs.fronts.after_word.Goals as goal
 
 -- the code compares the numbers of the words: two words with one number are one word

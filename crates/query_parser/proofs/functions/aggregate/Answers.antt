@@ -1,6 +1,6 @@
 use Rattle.std.proofs.Common.{arith}
 use Rattle.std.proofs.lemmas.Grind.{common_steps}
-use Rattle.query_parser.specs.LeafSteps.{aggregate_at}
+use Rattle.query_parser.specs.Inside.LeafSteps.{aggregate_at}
 use Rattle.query_parser.proofs.functions.aggregate.Goals as goal
 
 -- `grind` alone, without the search that is tried before it where a goal has no answer

@@ -3,11 +3,11 @@ use Rattle.std.proofs.lemmas.Result.{err_from_is_err_and}
 use Rattle.std.proofs.lemmas.List.{map_push}
 use Rattle.semantics.specs.declared.token.Sign.TheVariants.{Comma}
 use Rattle.query_ast.specs.Syntax.{element_form}
-use Rattle.query_parser.specs.Fronts.{is_sign}
+use Rattle.query_parser.specs.Inside.Fronts.{is_sign}
 use Rattle.query_parser.proofs.More.{unread_goes, unread_ends, unread_fails}
 use Rattle.query_parser.proofs.Levels.{no_sets}
-use Rattle.query_parser.specs.PredicateSteps.{any_front}
-use Rattle.query_parser.specs.GroupSteps.{group_at}
+use Rattle.query_parser.specs.Inside.PredicateSteps.{any_front}
+use Rattle.query_parser.specs.Inside.GroupSteps.{group_at}
 use Rattle.query_parser.proofs.groups.+group.Goals as goal
 
 pub more_groups-returns-in_err-next-clause-exact : goal.more_groups-returns-in_err-next-clause-exact

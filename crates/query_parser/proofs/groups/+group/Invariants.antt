@@ -1,11 +1,11 @@
 use Rattle.std.proofs.Common.{◌+◌, ◌*◌, ◌≤◌, length, map, ◌∷◌, []}
 use Rattle.semantics.specs.declared.token.Sign.TheVariants.{Comma}
 use Rattle.query_ast.specs.Syntax.{element_form}
-use Rattle.query_parser.specs.Fronts.{is_sign}
-use Rattle.query_parser.specs.Steps.{with_front, more}
+use Rattle.query_parser.specs.Inside.Fronts.{is_sign}
+use Rattle.query_parser.specs.Inside.Steps.{with_front, more}
 use Rattle.query_parser.proofs.More.{Unread}
-use Rattle.query_parser.specs.PredicateSteps.{any_front}
-use Rattle.query_parser.specs.GroupSteps.{group_at}
+use Rattle.query_parser.specs.Inside.PredicateSteps.{any_front}
+use Rattle.query_parser.specs.Inside.GroupSteps.{group_at}
 use Rattle.query_parser.proofs.groups.+group.Given as goal
 
 abbrev pub decreases-grouping_sets : goal.decreases-grouping_sets

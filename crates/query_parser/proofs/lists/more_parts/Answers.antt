@@ -2,7 +2,7 @@ use Rattle.std.proofs.Common.{◌≡◌, ◌+◌, ◌-◌, ◌++◌, ◌∷◌, 
 use Rattle.std.proofs.lemmas.Result.{err_from_is_err_and}
 use Rattle.std.proofs.lemmas.List.{map_push}
 use Rattle.semantics.specs.declared.token.Sign.TheVariants.{Comma}
-use Rattle.query_parser.specs.Fronts.{is_sign}
+use Rattle.query_parser.specs.Inside.Fronts.{is_sign}
 use Rattle.query_parser.proofs.More.{loop_over, loop_ends, loop_fails, front_goes, refused}
 use Rattle.query_parser.proofs.lists.more_parts.Goals as goal
 

@@ -1,7 +1,7 @@
 use Rattle.std.proofs.Common.{◌≡◌, ◌+◌, ◌-◌, ◌≤◌, length, map, ◌∷◌, [], vec_len}
 use Rattle.semantics.specs.declared.token.Sign.TheVariants.{Comma}
-use Rattle.query_parser.specs.Fronts.{is_sign}
-use Rattle.query_parser.specs.Steps.{with_front, more}
+use Rattle.query_parser.specs.Inside.Fronts.{is_sign}
+use Rattle.query_parser.specs.Inside.Steps.{with_front, more}
 use Rattle.query_parser.proofs.lists.more_parts.Given as goal
 
 abbrev pub invariant-loop-behind : goal.invariant-loop-behind

@@ -4,8 +4,8 @@ use Rattle.std.proofs.lemmas.List.{map_push}
 use Rattle.semantics.specs.declared.token.Word.TheVariants.{And, Or}
 use Rattle.query_ast.specs.Syntax.{predicate_form}
 use Rattle.semantics.specs.Leaves.{standard}
-use Rattle.query_parser.specs.Fronts.{is_word}
-use Rattle.query_parser.specs.PredicateSteps.{negation_at, conjunction_at, any_front, inside_of}
+use Rattle.query_parser.specs.Inside.Fronts.{is_word}
+use Rattle.query_parser.specs.Inside.PredicateSteps.{negation_at, conjunction_at, any_front, inside_of}
 use Rattle.query_parser.proofs.More.{unread_goes, unread_ends, unread_fails}
 use Rattle.query_parser.proofs.Levels.{no_filter, no_predicate}
 use Rattle.query_parser.proofs.predicates.+predicate.Goals as goal

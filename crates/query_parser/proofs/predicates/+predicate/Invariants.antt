@@ -2,9 +2,9 @@ use Rattle.std.proofs.Common.{◌+◌, ◌*◌, ◌≤◌, length, map}
 use Rattle.semantics.specs.declared.token.Word.TheVariants.{And, Or}
 use Rattle.query_ast.specs.Syntax.{predicate_form}
 use Rattle.semantics.specs.Leaves.{standard}
-use Rattle.query_parser.specs.Fronts.{is_word}
-use Rattle.query_parser.specs.Steps.{more}
-use Rattle.query_parser.specs.PredicateSteps.{negation_at, conjunction_at, any_front, inside_of}
+use Rattle.query_parser.specs.Inside.Fronts.{is_word}
+use Rattle.query_parser.specs.Inside.Steps.{more}
+use Rattle.query_parser.specs.Inside.PredicateSteps.{negation_at, conjunction_at, any_front, inside_of}
 use Rattle.query_parser.proofs.More.{Unread}
 use Rattle.query_parser.proofs.predicates.+predicate.Given as goal
 

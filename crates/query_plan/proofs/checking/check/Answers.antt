@@ -2,7 +2,7 @@ use Rattle.std.proofs.Common.{◌≡◌, ◌∙◌, Some, ap, subst}
 use Rattle.semantics.specs.Syntax.{TreeForm}
 use Rattle.query_resolve.specs.Functions.{filters_of}
 use Rattle.query_resolve.specs.Resolution.{resolution_of}
-use Rattle.query_typecheck.specs.Inside.FirstFaults.{query_fault}
+use Rattle.query_typecheck.specs.FirstFaults.{query_fault}
 use Rattle.query_typecheck.specs.Typing.{IsTyped}
 use Rattle.query_typecheck.proofs.FaultHeads.{faultless_is_typed, first_of_faults}
 use Rattle.query_eval.specs.Binding.{AreConditionsOf, IsConditionOf}

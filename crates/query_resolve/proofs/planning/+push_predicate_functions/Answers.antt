@@ -5,7 +5,7 @@ use Rattle.values.specs.Schema.{fields_of}
 use Rattle.query_ast.specs.declared.expression.Predicate.{Predicate}
 use Rattle.query_ast.specs.Syntax.{predicate_form}
 use Rattle.semantics.specs.Syntax.{predicate_forms}
-use Rattle.query_resolve.specs.Inside.Collecting.{parts_functions, predicate_functions}
+use Rattle.query_resolve.specs.Collecting.{parts_functions, predicate_functions}
 use Rattle.semantics.specs.Names.{planned_function}
 use Rattle.query_resolve.specs.Planning.{planned_forms}
 use Rattle.query_resolve.proofs.Rows.{appended_turn}

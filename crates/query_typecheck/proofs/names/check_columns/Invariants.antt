@@ -1,6 +1,6 @@
 use Rattle.std.proofs.Common.{◌≡◌, drop}
 use Rattle.values.specs.Schema.{fields_of}
-use Rattle.query_typecheck.specs.Inside.FirstFaults.{column_fault, first_fault}
+use Rattle.query_typecheck.specs.FirstFaults.{column_fault, first_fault}
 use Rattle.query_typecheck.proofs.names.check_columns.Given as goal
 
 abbrev pub invariant-loop-name : goal.invariant-loop-name

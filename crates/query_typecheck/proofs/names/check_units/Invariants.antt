@@ -2,7 +2,7 @@ use Rattle.std.proofs.Common.{◌≡◌, drop}
 use Rattle.std.specs.List.{flat_map}
 use Rattle.values.specs.Schema.{fields_of}
 use Rattle.query_ast.specs.Syntax.{units_form}
-use Rattle.query_typecheck.specs.Inside.FirstFaults.{column_fault, first_fault}
+use Rattle.query_typecheck.specs.FirstFaults.{column_fault, first_fault}
 use Rattle.query_typecheck.proofs.names.check_units.Given as goal
 
 abbrev pub invariant-loop-unit : goal.invariant-loop-unit

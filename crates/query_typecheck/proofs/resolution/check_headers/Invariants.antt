@@ -2,7 +2,7 @@ use Rattle.std.proofs.Common.{◌≡◌, map, take, drop, string_bytes}
 use Rattle.std.specs.List.{enumerate_from}
 use Rattle.query_ast.specs.Syntax.{item_form}
 use Rattle.semantics.specs.Canonical.{header_text}
-use Rattle.query_typecheck.specs.Inside.FirstFaults.{first_fault, header_fault, headers_fault}
+use Rattle.query_typecheck.specs.FirstFaults.{first_fault, header_fault, headers_fault}
 use Rattle.query_typecheck.proofs.resolution.check_headers.Given as goal
 
 abbrev pub invariant-loop-item : goal.invariant-loop-item

@@ -1,7 +1,7 @@
 use Rattle.std.proofs.Common.{◌≡◌, drop, map}
 use Rattle.values.specs.Schema.{fields_of}
 use Rattle.query_ast.specs.Syntax.{item_form}
-use Rattle.query_typecheck.specs.Inside.FirstFaults.{expression_fault, first_fault}
+use Rattle.query_typecheck.specs.FirstFaults.{expression_fault, first_fault}
 use Rattle.query_typecheck.proofs.resolution.check_items.Given as goal
 
 abbrev pub invariant-loop-item : goal.invariant-loop-item

@@ -2,7 +2,7 @@ use Rattle.std.proofs.Common.{◌≡◌, drop, map}
 use Rattle.values.specs.Schema.{fields_of}
 use Rattle.query_ast.specs.Syntax.{item_form, key_form}
 use Rattle.semantics.specs.Types.{key_expression}
-use Rattle.query_typecheck.specs.Inside.FirstFaults.{expression_fault, first_fault}
+use Rattle.query_typecheck.specs.FirstFaults.{expression_fault, first_fault}
 use Rattle.query_typecheck.proofs.resolution.check_keys.Given as goal
 
 abbrev pub invariant-loop-key : goal.invariant-loop-key

@@ -2,7 +2,7 @@ use Rattle.std.proofs.Common.{◌≡◌, drop, map}
 use Rattle.values.specs.Schema.{fields_of}
 use Rattle.query_ast.specs.Syntax.{predicate_form}
 use Rattle.semantics.specs.Syntax.{predicate_forms}
-use Rattle.query_typecheck.specs.Inside.FirstFaults.{parts_fault}
+use Rattle.query_typecheck.specs.FirstFaults.{parts_fault}
 use Rattle.query_typecheck.proofs.typing.+check_predicate.Given as goal
 
 abbrev pub invariant-check_parts-loop-part : goal.invariant-check_parts-loop-part

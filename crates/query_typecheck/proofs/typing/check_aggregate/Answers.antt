@@ -3,7 +3,7 @@ use Rattle.std.specs.Option.{option_or}
 use Rattle.values.specs.Schema.{fields_of}
 use Rattle.semantics.specs.declared.aggregate.Aggregate.{Aggregate}
 use Rattle.semantics.specs.declared.aggregate.Aggregate.TheVariants as aggregate
-use Rattle.query_typecheck.specs.Inside.FirstFaults.{Answers, argument_fault, first_fault}
+use Rattle.query_typecheck.specs.FirstFaults.{Answers, argument_fault, first_fault}
 use Rattle.query_typecheck.specs.Typing.{argument_names, takes}
 use Rattle.query_typecheck.proofs.typing.check_aggregate.Goals as goal
 

@@ -1,6 +1,6 @@
 use Rattle.std.proofs.Common.{◌≡◌, drop}
 use Rattle.values.specs.Schema.{fields_of}
-use Rattle.query_typecheck.specs.Inside.FirstFaults.{first_fault, grouped_fault}
+use Rattle.query_typecheck.specs.FirstFaults.{first_fault, grouped_fault}
 use Rattle.query_typecheck.proofs.typing.check_all_grouped.Given as goal
 
 abbrev pub invariant-loop-name : goal.invariant-loop-name

@@ -1,6 +1,6 @@
 use Rattle.std.proofs.Common.{◌≡◌, drop, Some}
 use Rattle.semantics.specs.Types.{literal_kind}
-use Rattle.query_typecheck.specs.Inside.FirstFaults.{agreement_fault, first_fault}
+use Rattle.query_typecheck.specs.FirstFaults.{agreement_fault, first_fault}
 use Rattle.query_typecheck.proofs.typing.check_literals.Given as goal
 
 abbrev pub invariant-loop-literal : goal.invariant-loop-literal

@@ -5,7 +5,7 @@ use Rattle.tables_groups.specs.declared.group.Group.{Group}
 use Rattle.tables_groups.specs.Found.{row_of}
 use Rattle.report.specs.Inside.Parts.{IsTextOf}
 use Rattle.report_rows.specs.Sources.{cells_at}
-use Rattle.report.specs.Text.{rows_bytes}
+use Rattle.report.specs.Inside.Text.{rows_bytes}
 use Rattle.report_rows.proofs.InParts.{parts-cover, parts-made}
 use Rattle.report.proofs.among.texts_among.Goals as goal
 

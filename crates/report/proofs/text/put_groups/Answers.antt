@@ -6,7 +6,7 @@ use Rattle.tables_groups.specs.declared.group.Group.{Group}
 use Rattle.semantics.specs.Aggregates.{Summary}
 use Rattle.tables_groups.specs.Found.{row_of}
 use Rattle.report_rows.specs.Sources.{cells_at}
-use Rattle.report.specs.Text.{rows_bytes}
+use Rattle.report.specs.Inside.Text.{rows_bytes}
 use Rattle.report_rows.proofs.Maps.{map-more}
 use Rattle.report.proofs.Written.{rows-append}
 use Rattle.report.proofs.text.put_groups.Goals as goal

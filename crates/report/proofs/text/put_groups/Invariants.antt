@@ -5,7 +5,7 @@ use Rattle.tables_groups.specs.declared.group.Group.{Group}
 use Rattle.tables_groups.specs.Found.{row_of}
 use Rattle.report.specs.Inside.Between.{IsBetweenRows}
 use Rattle.report_rows.specs.Sources.{cells_at}
-use Rattle.report.specs.Text.{rows_bytes}
+use Rattle.report.specs.Inside.Text.{rows_bytes}
 use Rattle.report.proofs.text.put_groups.Given as goal
 
 -- the rows so far stand behind what was there

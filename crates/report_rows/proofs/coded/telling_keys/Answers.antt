@@ -4,7 +4,7 @@ use Rattle.semantics.specs.Syntax.{ExpressionForm, ItemForm, KeyForm, TreeForm}
 use Rattle.semantics.specs.Types.{key_expression}
 use Rattle.query_ast.specs.Syntax.{item_form, key_form}
 use Rattle.report_rows.specs.Inside.SortEntries.{AreTelling, CodedForm, coded_form}
-use Rattle.report_rows.specs.Sources.{AreSourcesBySet}
+use Rattle.report_rows.specs.Inside.Sources.{AreSourcesBySet}
 use Rattle.report_rows.proofs.CodedKeys.{telling-more}
 use Rattle.report_rows.proofs.coded.telling_keys.Goals as goal
 

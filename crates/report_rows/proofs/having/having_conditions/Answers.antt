@@ -7,7 +7,7 @@ use Rattle.query_ast.specs.Syntax.{predicate_form}
 use Rattle.query_resolve.specs.Resolution.{contents}
 use Rattle.semantics.specs.Sets.{sets_of}
 use Rattle.semantics.specs.Syntax.{TreeForm}
-use Rattle.report_rows.specs.Having.{IsHavingFor}
+use Rattle.report_rows.specs.Inside.Having.{IsHavingFor}
 use Rattle.report_rows.proofs.Keeping.{having-typed, is-typed}
 use Rattle.report_rows.proofs.RowScope.{bound-having, zip-next}
 use Rattle.report_rows.proofs.having.having_conditions.Goals as goal

@@ -10,7 +10,7 @@ use Rattle.values.specs.Datum.{data_of}
 use Rattle.tables_groups.specs.declared.group.Group.{Group}
 use Rattle.tables_groups.specs.Found.{row_of}
 use Rattle.semantics.specs.Rows.{rows_having_true}
-use Rattle.report_rows.specs.Having.{AreHaving, IsHavingFor, having_truth}
+use Rattle.report_rows.specs.Inside.Having.{AreHaving, IsHavingFor, having_truth}
 use Rattle.report_rows.proofs.Keeping.{all-having_true, group-fits}
 use Rattle.report_rows.proofs.Maps.{map-twice}
 use Rattle.report_rows.proofs.RowScope.{having-of}

@@ -1,6 +1,6 @@
 use Rattle.std.proofs.Common.{◌≡◌, map, take}
 use Rattle.query_ast.specs.Syntax.{expression_form}
-use Rattle.report_rows.specs.Sources.{expression_forms}
+use Rattle.report_rows.specs.Inside.Sources.{expression_forms}
 use Rattle.report_rows.proofs.source.item_expressions.Given as goal
 
 abbrev pub invariant-loop-item : goal.invariant-loop-item

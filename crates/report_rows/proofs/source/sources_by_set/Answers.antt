@@ -1,7 +1,7 @@
 use Rattle.std.proofs.Common.{◌∙◌, ap}
 use Rattle.std.proofs.lemmas.Result.{IfOk-weaker}
 use Rattle.semantics.specs.Sets.{sets_of}
-use Rattle.report_rows.specs.Sources.{expression_forms}
+use Rattle.report_rows.specs.Inside.Sources.{expression_forms}
 use Rattle.report_rows.proofs.Sources.{items-each}
 use Rattle.report_rows.proofs.source.sources_by_set.Goals as goal
 

@@ -2,7 +2,8 @@ use Rattle.std.proofs.Common.{◌≡◌, ◌∙◌, ◌++◌, ◌+◌, Bor, [], 
 use Rattle.std.proofs.lemmas.List.{map-append, take_more}
 use Rattle.query_ast.specs.declared.expression.Expression.{Expression}
 use Rattle.query_ast.specs.Syntax.{expression_form}
-use Rattle.report_rows.specs.Sources.{expression_forms, shown_at}
+use Rattle.report_rows.specs.Inside.Sources.{expression_forms}
+use Rattle.report_rows.specs.Sources.{shown_at}
 use Rattle.semantics.specs.Rows.{expression_shown}
 use Rattle.report_rows.proofs.source.sources_of.Goals as goal
 

@@ -1,7 +1,8 @@
 use Rattle.std.proofs.Common.{◌≡◌, List, map, take}
 use Rattle.semantics.specs.Aggregates.{Summary}
 use Rattle.semantics.specs.Groups.{Key}
-use Rattle.report_rows.specs.Sources.{expression_forms, shown_at}
+use Rattle.report_rows.specs.Inside.Sources.{expression_forms}
+use Rattle.report_rows.specs.Sources.{shown_at}
 use Rattle.semantics.specs.Rows.{expression_shown}
 use Rattle.report_rows.proofs.source.sources_of.Given as goal
 

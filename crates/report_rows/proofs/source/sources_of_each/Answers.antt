@@ -4,7 +4,8 @@ use Rattle.std.proofs.lemmas.List.{get_or-map, length-map}
 use Rattle.query_resolve.specs.Resolution.{contents}
 use Rattle.semantics.specs.Sets.{sets_of}
 use Rattle.report_rows.specs.declared.source.Source.{Source}
-use Rattle.report_rows.specs.Sources.{AreSourcesFor, ForEachSet, expression_forms}
+use Rattle.report_rows.specs.Inside.Sources.{AreSourcesFor, expression_forms}
+use Rattle.report_rows.specs.Sources.{ForEachSet}
 use Rattle.report_rows.proofs.Sources.{each-next}
 use Rattle.report_rows.proofs.source.sources_of_each.Goals as goal
 

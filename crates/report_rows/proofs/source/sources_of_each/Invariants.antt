@@ -1,6 +1,7 @@
 use Rattle.std.proofs.Common.{take}
 use Rattle.query_resolve.specs.Resolution.{contents}
-use Rattle.report_rows.specs.Sources.{AreSourcesFor, ForEachSet, expression_forms}
+use Rattle.report_rows.specs.Inside.Sources.{AreSourcesFor, expression_forms}
+use Rattle.report_rows.specs.Sources.{ForEachSet}
 use Rattle.report_rows.proofs.source.sources_of_each.Given as goal
 
 abbrev pub invariant-loop-set : goal.invariant-loop-set

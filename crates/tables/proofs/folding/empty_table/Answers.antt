@@ -2,7 +2,7 @@ use Rattle.std.proofs.Common.{◌≡◌, [], Bool, List, map, ap, subst, ◌∙�
 use Rattle.std.proofs.lemmas.Result.{IfOk-weaker}
 use Rattle.semantics.specs.Aggregates.{AggregateFunction}
 use Rattle.tables_groups.specs.Functions.{aggregate_of}
-use Rattle.tables_groups.specs.Inside.Table.{Contents, IsTableOf}
+use Rattle.tables_groups.specs.Table.{Contents, IsTableOf}
 use Rattle.semantics.specs.Groups.{Row}
 use Rattle.semantics.specs.Sets.{grouping_places}
 use Rattle.semantics.specs.Found.{aggregate_functions}
@@ -12,12 +12,11 @@ use Rattle.tables.proofs.folding.empty_table.Goals as goal
 
 pub returns : goal.returns
 returns g c =
-    let fields = c.args.plan.now.fields in
-    let q = c.args.plan.now.query in
-    let fs = aggregate_functions fields q in
-    let filters = filter_tests fields q in
-    let bound_are : map (aggregate_of filters) c.set_functions.result.now ≡ fs = ap (map (aggregate_of filters)) c.set_functions.ensures.functions ∙ bound-functions fields q in
-    IfOk-weaker c.empty_table.result (λ (t : Contents). (filters : List (Row → Bool)) → IsTableOf c.grouping.result.now (map (aggregate_of filters) c.set_functions.result.now) t []) (λ (t : Contents). IsTableOf (grouping_places fields q) fs t [])
-    (λ t held. subst (λ (gs : List AggregateFunction). IsTableOf (grouping_places fields q) gs t []) bound_are
+    let plan = c.args.plan.now in
+    let fs = aggregate_functions plan.fields plan.query in
+    let filters = filter_tests plan in
+    let bound_are : map (aggregate_of filters) c.set_functions.result.now ≡ fs = ap (map (aggregate_of filters)) c.set_functions.ensures.functions ∙ bound-functions plan in
+    IfOk-weaker c.empty_table.result (λ (t : Contents). (filters : List (Row → Bool)) → IsTableOf c.grouping.result.now (map (aggregate_of filters) c.set_functions.result.now) t []) (λ (t : Contents). IsTableOf (grouping_places plan.fields plan.query) fs t [])
+    (λ t held. subst (λ (gs : List AggregateFunction). IsTableOf (grouping_places plan.fields plan.query) gs t []) bound_are
     (subst (λ set. IsTableOf set (map (aggregate_of filters) c.set_functions.result.now) t []) c.grouping.ensures.grouping (held filters)))
     c.empty_table.ensures.empty

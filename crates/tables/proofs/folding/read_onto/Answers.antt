@@ -4,7 +4,7 @@ use Rattle.std.proofs.Math.Logic.{∥∥₁_elim, ∥∥₁_map}
 use Rattle.std.proofs.Props.{props}
 use Rattle.semantics.specs.Lines.{lines}
 use Rattle.lines.specs.Checked.{line_bytes}
-use Rattle.tables.specs.Folding.{HasRead}
+use Rattle.tables.specs.Inside.Folding.{HasRead}
 use Rattle.tables.proofs.Reading.{nothing-read, well-numbered}
 use Rattle.tables.proofs.folding.read_onto.Goals as goal
 
@@ -18,7 +18,7 @@ few before seen rest all line e short =
 pub loop-line-init : goal.loop-line-init
 loop-line-init c = λ before held. record {
   seen = [];
-  has_read = nothing-read c.args.plan.now.fields c.args.plan.now.query before c.args.table c.begin-folding.result held c.begin-folding.ensures.table c.begin-folding.ensures.lines c.begin-folding.ensures.refused c.begin-folding.ensures.refusals;
+  has_read = nothing-read c.args.plan.now before c.args.table c.begin-folding.result held c.begin-folding.ensures.table c.begin-folding.ensures.lines c.begin-folding.ensures.refused c.begin-folding.ensures.refusals;
   is = c.into_iter-line-iterator.ensures.into_iter_gives ∙ c.checked_lines_of-line-items.ensures;
 }
 
@@ -47,7 +47,7 @@ loop-line-preserved c = λ before held.
 pub returns-clause-read : goal.returns-clause-read
 returns-clause-read c = λ before held.
     let v = c.loop-line.invariant before held in
-    subst (HasRead c.args.plan.now.fields c.args.plan.now.query before c.loop-line.folding)
+    subst (HasRead c.args.plan.now before c.loop-line.folding)
     (sym (append-nil v.seen) ∙ ap (λ ls. v.seen ++ ls) (sym c.in-None.ensures.steps.0) ∙ v.is) v.has_read
 
 pub returns-clause-lines : goal.returns-clause-lines

@@ -6,7 +6,7 @@ use Rattle.tables.proofs.Finding.{found-same}
 use Rattle.tables.proofs.laws.records_law.Goals as goal
 
 pub returns : goal.returns
-returns c = λ fields q rows others same.
-    found-same (aggregate_functions fields q) (kept_records fields q rows) (kept_records fields q others)
-    (λ set. c.records_law.ensures.groups set (aggregate_functions fields q) (kept_records fields q rows) (kept_records fields q others) (bag-filter (is_kept fields q) rows others same))
-    (sets_of fields q)
+returns c = λ plan rows others same.
+    found-same (aggregate_functions plan.fields plan.query) (kept_records plan.fields plan.query rows) (kept_records plan.fields plan.query others)
+    (λ set. c.records_law.ensures.groups set (aggregate_functions plan.fields plan.query) (kept_records plan.fields plan.query rows) (kept_records plan.fields plan.query others) (bag-filter (is_kept plan.fields plan.query) rows others same))
+    (sets_of plan.fields plan.query)

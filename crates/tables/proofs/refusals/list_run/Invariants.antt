@@ -1,5 +1,5 @@
 use Rattle.std.proofs.Common.{◌≡◌, ◌+◌, ◌++◌, suc, map}
-use Rattle.tables.specs.Refusals.{neighbours}
+use Rattle.tables.specs.Inside.Refusals.{neighbours}
 use Rattle.tables.proofs.refusals.list_run.Given as goal
 
 -- the first line and some neighbours stand behind those of the list

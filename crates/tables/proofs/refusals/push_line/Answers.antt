@@ -1,5 +1,5 @@
 use Rattle.std.proofs.Common.{◌++◌, ◌∷◌, [], ap, ◌∙◌}
-use Rattle.tables.specs.Refusals.{lines_of_runs}
+use Rattle.tables.specs.Inside.Refusals.{lines_of_runs}
 use Rattle.tables.proofs.Runs.{run-more}
 use Rattle.tables.proofs.refusals.push_line.Goals as goal
 

@@ -1,5 +1,5 @@
 use Rattle.std.proofs.Common.{◌+◌, ◌<◌, ◌^◌, get_or, ap, ◌∙◌, arith}
-use Rattle.tables.specs.Refusals.{lines_of_runs}
+use Rattle.tables.specs.Inside.Refusals.{lines_of_runs}
 use Rattle.tables.proofs.Runs.{all-run, first-within, no_run, run-more, run-shifted, runs-shifted}
 use Rattle.tables.proofs.refusals.put_runs.Goals as goal
 

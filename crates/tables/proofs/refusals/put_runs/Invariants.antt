@@ -1,5 +1,5 @@
 use Rattle.std.proofs.Common.{◌≡◌, ◌+◌, ◌++◌, map, take}
-use Rattle.tables.specs.Refusals.{lines_of_runs}
+use Rattle.tables.specs.Inside.Refusals.{lines_of_runs}
 use Rattle.tables.proofs.refusals.put_runs.Given as goal
 
 -- the lines of the runs so far stand behind those of the runs before

@@ -5,7 +5,7 @@ use Rattle.tables.specs.declared.rolling.SetTable.{SetTable}
 use Rattle.tables_groups.specs.Rolled.{AreAmong}
 use Rattle.tables.specs.declared.rolling.Roll.{Roll}
 use Rattle.tables.specs.Properties.{HasProperty}
-use Rattle.tables.specs.SetTables.{HaveFiner, HaveProperty, sets_of_rolls, sets_of_tables}
+use Rattle.tables.specs.Inside.SetTables.{HaveFiner, HaveProperty, sets_of_rolls, sets_of_tables}
 use Rattle.tables.proofs.SetTables.{WaitsOn}
 use Rattle.tables.proofs.Walking.{finer-left, sets-moved}
 use Rattle.tables.proofs.rolling.roll_out.Goals as goal

@@ -5,7 +5,7 @@ use Rattle.tables_groups.specs.Rolled.{AreAmong}
 use Rattle.tables.specs.declared.rolling.Roll.{Roll}
 use Rattle.tables.specs.declared.rolling.SetTable.{SetTable}
 use Rattle.tables.specs.Properties.{HasProperty}
-use Rattle.tables.specs.SetTables.{ListedSet, listed_table, sets_of_rolls, sets_of_tables}
+use Rattle.tables.specs.Inside.SetTables.{ListedSet, listed_table, sets_of_rolls, sets_of_tables}
 use Rattle.tables.proofs.SetTables.{HasPropertyWhereMade, rolled-each, sets-same, take-front}
 use Rattle.tables.proofs.rolling.roll_sets.Goals as goal
 

@@ -3,7 +3,7 @@ use Rattle.std.proofs.lemmas.List.{map_push}
 use Rattle.std.proofs.lemmas.List.Elements.{All-push}
 use Rattle.std.proofs.lemmas.List.Sorted.{All-permutation, IsPermutation-map, IsPermutation-sym}
 use Rattle.tables.specs.declared.rolling.Roll.{Roll}
-use Rattle.tables.specs.SetTables.{ListedSet, NoneHasIndex, StandsAtIndex, listed_roll, sets_of_rolls}
+use Rattle.tables.specs.Inside.SetTables.{ListedSet, NoneHasIndex, StandsAtIndex, listed_roll, sets_of_rolls}
 use Rattle.tables.proofs.SetTables.{all-first, all-more, last-index, same-option, stands-new}
 use Rattle.tables.proofs.rolling.waiting_sets.Goals as goal
 use Rattle.tables.proofs.rolling.waiting_sets.Goals.{then-ne+in_ok-set+in_ok-push, else-ne}

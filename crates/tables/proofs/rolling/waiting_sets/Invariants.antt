@@ -1,5 +1,5 @@
 use Rattle.std.proofs.Common.{◌≡◌, ◌<◌, ℕ, All, Some}
-use Rattle.tables.specs.SetTables.{NoneHasIndex, StandsAtIndex, sets_of_rolls}
+use Rattle.tables.specs.Inside.SetTables.{NoneHasIndex, StandsAtIndex, sets_of_rolls}
 use Rattle.tables.proofs.rolling.waiting_sets.Given as goal
 
 -- each roll is that of a set at its index; each set so far has one, but for that of the index

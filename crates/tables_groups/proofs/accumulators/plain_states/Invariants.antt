@@ -1,7 +1,7 @@
 use Rattle.std.proofs.Common.{◌≡◌, ◌++◌, map}
 use Rattle.group_states.specs.States.{states_of}
 use Rattle.tables_groups.specs.Inside.Accumulator.{state_in}
-use Rattle.tables_groups.specs.Inside.Entries.{plain_state}
+use Rattle.tables_groups.specs.Entries.{plain_state}
 use Rattle.tables_groups.proofs.accumulators.plain_states.Given as goal
 
 -- the states so far, and then those of the accumulators that are left

@@ -1,7 +1,7 @@
 use Rattle.std.proofs.Common.{◌≡◌, ◌∷◌, ◌++◌, List, ap, sym, subst, map, arith}
 use Rattle.tables_groups.specs.GroupSummaries.{group_summary_in}
 use Rattle.tables_groups.specs.Inside.GroupsOfShards.{AreGroupsOfEach}
-use Rattle.tables_groups.specs.Inside.Shards.{all_entries}
+use Rattle.tables_groups.specs.Shards.{all_entries}
 use Rattle.tables_groups.proofs.InParts.{ComesTo, Part, none-left, part-joined}
 use Rattle.tables_groups.specs.Inside.Summaries.{entry_summaries}
 use Rattle.tables_groups.proofs.Walks.{none_left}

@@ -1,6 +1,6 @@
 use Rattle.std.proofs.Common.{List}
 use Rattle.tables_groups.specs.Inside.GroupsOfShards.{AreGroupsOfEach}
-use Rattle.tables_groups.specs.Inside.Shards.{all_entries}
+use Rattle.tables_groups.specs.Shards.{all_entries}
 use Rattle.tables_groups.specs.declared.shard.Shard.{Shard}
 use Rattle.tables_groups.proofs.InParts.{ComesTo}
 use Rattle.tables_groups.specs.Inside.Summaries.{entry_summaries}

@@ -1,10 +1,11 @@
 use Rattle.std.proofs.Common.{◌≡◌, [], ◌∷◌, ◌++◌, map, sym, ap, append_assoc, ◌∙◌}
 use Rattle.tables_groups.specs.declared.packed_key.PackedKey.{PackedKey}
-use Rattle.tables_groups.specs.Inside.Keys.{key_in}
+use Rattle.tables_groups.specs.Keys.{key_in}
 use Rattle.std.proofs.lemmas.Map.Iter.{rest_more}
-use Rattle.tables_groups.specs.Inside.Group.{GroupState, state_summary}
+use Rattle.tables_groups.specs.Group.{GroupState}
+use Rattle.tables_groups.specs.Inside.Group.{state_summary}
 use Rattle.tables_groups.specs.GroupSummaries.{group_summary_in}
-use Rattle.tables_groups.specs.Inside.Table.{entries_by_key}
+use Rattle.tables_groups.specs.Table.{entries_by_key}
 use Rattle.tables_groups.proofs.group.put_groups.Goals as goal
 
 pub loop-key-preserved : goal.loop-key-preserved

@@ -1,3 +1,5 @@
+use Rattle.tables_groups.specs.Table.{both_tables}
+use Rattle.tables_groups.proofs.Joint.{both_tables-has}
 use Rattle.tables_groups.proofs.Typed.{both-typed, records-typed}
 use Rattle.tables_groups.proofs.laws.typed_law.Goals as goal
 
@@ -5,4 +7,4 @@ pub returns-clause-records : goal.returns-clause-records
 returns-clause-records c = records-typed
 
 pub returns-clause-joined : goal.returns-clause-joined
-returns-clause-joined c = both-typed
+returns-clause-joined c = λ fields set functions a b p q. both-typed fields set functions a b (both_tables a b) p q (both_tables-has a b)

@@ -1,5 +1,5 @@
 use Rattle.std.proofs.Common.{arith}
-use Rattle.tables_groups.specs.Inside.Keys.{key_in}
+use Rattle.tables_groups.specs.Keys.{key_in}
 use Rattle.tables_groups.proofs.Shards.{place-below}
 use Rattle.tables_groups.proofs.place.place_of.Goals as goal
 

@@ -3,7 +3,7 @@ use Rattle.std.proofs.lemmas.Result.{IfOk-weaker}
 use Rattle.group_states.specs.States.{entries_of}
 use Rattle.group_states.specs.declared.entry.GroupEntry.{GroupEntry}
 use Rattle.tables_groups.specs.declared.keyed.Keyed.{Keyed}
-use Rattle.tables_groups.specs.Inside.Shards.{all_entries, contents_of_shards}
+use Rattle.tables_groups.specs.Shards.{all_entries, contents_of_shards}
 use Rattle.tables_groups.proofs.Listing.{listed}
 use Rattle.tables_groups.proofs.Shards.{distinct-all}
 use Rattle.tables_groups.proofs.plain_entries.entries_of.Goals as goal

@@ -2,7 +2,7 @@ use Rattle.std.proofs.Common.{◌≡◌, [], ◌∷◌, ◌++◌, List, append-n
 use Rattle.std.proofs.lemmas.List.{map-append}
 use Rattle.tables_groups.specs.declared.shard.Shard.{Shard}
 use Rattle.tables_groups.specs.Inside.Keyed.{keyed_at, keyed_entry}
-use Rattle.tables_groups.specs.Inside.Shards.{all_entries, entries_in}
+use Rattle.tables_groups.specs.Shards.{all_entries, entries_in}
 use Rattle.tables_groups.proofs.Walks.{none_left}
 use Rattle.tables_groups.proofs.plain_entries.keyed_entries.Goals as goal
 

@@ -1,6 +1,6 @@
 use Rattle.std.proofs.Common.{◌≡◌, ◌++◌, map}
 use Rattle.tables_groups.specs.Inside.Keyed.{keyed_at, keyed_entry}
-use Rattle.tables_groups.specs.Inside.Shards.{all_entries}
+use Rattle.tables_groups.specs.Shards.{all_entries}
 use Rattle.tables_groups.proofs.plain_entries.keyed_entries.Given as goal
 
 -- the groups so far, and then those of the shards that are left

@@ -1,7 +1,7 @@
 use Rattle.std.proofs.Common.{◌≡◌, ◌∷◌, ◌++◌, map, sym, ap, ◌∙◌}
 use Rattle.std.proofs.lemmas.Map.Iter.{rest_more}
 use Rattle.tables_groups.specs.declared.packed_key.PackedKey.{PackedKey}
-use Rattle.tables_groups.specs.Inside.Group.{GroupState}
+use Rattle.tables_groups.specs.Group.{GroupState}
 use Rattle.tables_groups.specs.Inside.Keyed.{keyed_at, keyed_entry}
 use Rattle.tables_groups.proofs.Entries.{Entries}
 use Rattle.tables_groups.proofs.Moved.{one-more}

@@ -1,8 +1,8 @@
 use Rattle.std.proofs.Common.{List, ◌≡◌, ◌<◌, suc, ◌∷◌, drop, get_or, set, length, inl, inr, sym, ap, subst, ◌∙◌, arith, length-set}
 use Rattle.std.proofs.lemmas.Bool.{cases_eq}
 use Rattle.std.proofs.lemmas.List.{get_or-set_same, get_or-set_other}
-use Rattle.tables_groups.specs.Inside.Shards.{contents_in}
-use Rattle.tables_groups.specs.Inside.Table.{IsJoined}
+use Rattle.tables_groups.specs.Shards.{contents_in}
+use Rattle.tables_groups.specs.Table.{IsJoined}
 use Rattle.tables_groups.specs.declared.shard.Shard.{Shard}
 use Rattle.tables_groups.proofs.Shards.{after-drop, at-drop, defaults}
 use Rattle.tables_groups.proofs.table.join_shards.Goals as goal

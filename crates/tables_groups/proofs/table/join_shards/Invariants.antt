@@ -1,7 +1,7 @@
 use Rattle.std.proofs.Common.{◌≡◌, ◌+◌, ◌<◌, ◌≤◌, ℕ, drop, get_or, length}
 use Rattle.semantics.specs.Groups.{Key}
-use Rattle.tables_groups.specs.Inside.Shards.{contents_in}
-use Rattle.tables_groups.specs.Inside.Table.{IsJoined}
+use Rattle.tables_groups.specs.Shards.{contents_in}
+use Rattle.tables_groups.specs.Table.{IsJoined}
 use Rattle.tables_groups.specs.declared.shard.Shard.{Shard}
 use Rattle.tables_groups.proofs.table.join_shards.Given as goal
 

@@ -1,7 +1,8 @@
 use Rattle.std.proofs.Common.{ap, ◌∙◌}
 use Rattle.std.specs.FinSet as set
 use Rattle.values.specs.Datum.{datum_of}
-use Rattle.tables_groups.specs.Inside.Values.{Values, values_in}
+use Rattle.tables_groups.specs.Values.{Values}
+use Rattle.tables_groups.specs.Inside.Values.{values_in}
 use Rattle.tables_groups.proofs.Sets.{shown-insert}
 use Rattle.tables_groups.proofs.value_set.set_of_two.Goals as goal
 

@@ -1,5 +1,5 @@
 use Rattle.std.proofs.Common.{◌≡◌, ◌∷◌, ◌++◌, ap, sym, append_assoc, ◌∙◌}
-use Rattle.tables_groups.specs.Inside.Shards.{all_entries}
+use Rattle.tables_groups.specs.Shards.{all_entries}
 use Rattle.tables_groups.specs.Inside.Walks.{entries_left}
 use Rattle.tables_groups.specs.declared.walk.Walk.{Walk}
 use Rattle.tables_groups.proofs.Entries.{Entries}

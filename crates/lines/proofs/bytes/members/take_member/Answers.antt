@@ -1,7 +1,7 @@
 use Rattle.std.proofs.Common.{ap, ◌∙◌}
 use Rattle.semantics.specs.Records.{datum_taken}
 use Rattle.lines_json.specs.Standing.{IsValueAt}
-use Rattle.lines.specs.Members.{IsNameAt}
+use Rattle.lines.specs.Inside.Members.{IsNameAt}
 use Rattle.lines.proofs.Placing.{taken-other, taken-place}
 use Rattle.lines.proofs.bytes.members.take_member.Goals as goal
 

@@ -1,5 +1,5 @@
 use Rattle.std.proofs.Common.{Ok, rules, ◌∙◌}
-use Rattle.lines.specs.Input.{HasAccount}
+use Rattle.lines.specs.Inside.Input.{HasAccount}
 use Rattle.lines.proofs.Account.{HasAccount-trans, not-ok}
 use Rattle.lines.proofs.Leaving.{GoesOn-scanned, GoesOn-trans}
 use Rattle.lines.proofs.input.Input.fill.Goals as goal

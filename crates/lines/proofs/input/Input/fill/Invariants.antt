@@ -1,5 +1,5 @@
 use Rattle.std.proofs.Common.{◌<◌, ◌≤◌, ◌+◌, ◌-◌, Ok}
-use Rattle.lines.specs.Input.{GoesOn, HasAccount}
+use Rattle.lines.specs.Inside.Input.{GoesOn, HasAccount}
 use Rattle.lines.specs.Clip.{clipped_len}
 use Rattle.lines.proofs.input.Input.fill.Given as goal
 

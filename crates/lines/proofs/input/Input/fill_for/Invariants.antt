@@ -1,5 +1,5 @@
 use Rattle.std.proofs.Common.{◌<◌, ◌≤◌, ◌-◌, Ok}
-use Rattle.lines.specs.Input.{ComesNear, GoesOn, HasAccount}
+use Rattle.lines.specs.Inside.Input.{ComesNear, GoesOn, HasAccount}
 use Rattle.lines.specs.Clip.{clipped_len}
 use Rattle.lines.proofs.input.Input.fill_for.Given as goal
 

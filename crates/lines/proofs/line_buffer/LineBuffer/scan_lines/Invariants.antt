@@ -1,5 +1,5 @@
 use Rattle.std.proofs.Common.{◌≤◌, ◌+◌, ◌-◌, ◌*◌, cond}
-use Rattle.lines.specs.Holding.{KeepsLeft}
+use Rattle.lines.specs.Inside.Holding.{KeepsLeft}
 use Rattle.lines.proofs.line_buffer.LineBuffer.scan_lines.Given as goal
 
 -- what is left stays the same

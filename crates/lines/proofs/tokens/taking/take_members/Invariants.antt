@@ -3,7 +3,7 @@ use Rattle.json.specs.Json.{members, value}
 use Rattle.serde_json.specs.Data.{Members, no_members}
 use Rattle.serde_json.specs.Read.{of_members}
 use Rattle.lines_json.proofs.Meaning.{IsAt}
-use Rattle.lines.specs.Members.{AreTaken}
+use Rattle.lines.specs.Inside.Members.{AreTaken}
 use Rattle.lines.proofs.tokens.taking.take_members.Given as goal
 
 -- the members so far are `found`, and the values are what the columns take of them

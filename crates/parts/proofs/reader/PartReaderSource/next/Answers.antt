@@ -1,5 +1,5 @@
 use Rattle.std.proofs.Common.{◌∙◌, ap, Ok}
-use Rattle.parts.specs.Reader.{left_at}
+use Rattle.parts.specs.Inside.Reader.{left_at}
 use Rattle.parts.proofs.Taking.{ends-there, taken-there}
 use Rattle.parts.proofs.reader.PartReaderSource.next.Goals as goal
 

@@ -2,7 +2,7 @@ use Rattle.std.proofs.Common.{◌∙◌, ◌+◌, length, ap, subst}
 use Rattle.crossbeam_deque.specs.Handles.{worker_view}
 use Rattle.pool.specs.Seen.{Owned}
 use Rattle.pool.specs.Inside.Looks.{HaveOneRun}
-use Rattle.pool.specs.Inside.Rule.{AreKnown}
+use Rattle.pool.specs.Steps.{AreKnown}
 use Rattle.pool.proofs.Looks.{knows_own, looked_same}
 use Rattle.pool.proofs.deal.LocalQueue.compare_with.Goals as goal
 

@@ -1,6 +1,6 @@
 use Rattle.std.proofs.Common.{length, subst}
 use Rattle.semantics.specs.SetFunctions.{functions_of}
-use Rattle.report_rows.specs.Sources.{IsSourceOf, IsWithin}
+use Rattle.report_rows.specs.Inside.Sources.{IsSourceOf, IsWithin}
 use Rattle.report_rows.proofs.RowScope.{cell-source, key-source}
 use Rattle.report_rows.proofs.row_scope.RowScope.value_source.Goals as goal
 

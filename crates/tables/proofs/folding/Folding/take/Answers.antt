@@ -3,7 +3,7 @@ use Rattle.semantics.specs.Aggregates.{AggregateFunction}
 use Rattle.tables_groups.specs.Functions.{aggregate_of}
 use Rattle.tables_groups.specs.Rows.{IsNarrowRow}
 use Rattle.semantics.specs.Groups.{Row}
-use Rattle.tables_groups.specs.Inside.Table.{IsTableOf}
+use Rattle.tables_groups.specs.Table.{IsTableOf}
 use Rattle.values.specs.Datum.{data_of}
 use Rattle.query_resolve.specs.Functions.{filters_of}
 use Rattle.semantics.specs.Sets.{grouping_places}
@@ -12,7 +12,7 @@ use Rattle.semantics.specs.Found.{aggregate_functions}
 use Rattle.tables.specs.Functions.{filter_tests}
 use Rattle.tables.proofs.Bound.{bound-functions, marks-kept}
 use Rattle.tables.proofs.Narrow.{narrow-from_fits}
-use Rattle.tables.proofs.Reading.{kept-append}
+use Rattle.tables.specs.Laws.{kept-append}
 use Rattle.tables.proofs.folding.Folding.take.Goals as goal
 
 pub add-requires-clause-narrow : goal.add-requires-clause-narrow
@@ -20,20 +20,19 @@ add-requires-clause-narrow c = subst IsNarrowRow (sym c.values.ensures.values) (
 
 pub returns-in_ok-add-clause-table : goal.returns-in_ok-add-clause-table
 returns-in_ok-add-clause-table c = λ rows given.
-    let fields = c.args.plan.now.fields in
-    let q = c.args.plan.now.query in
-    let grouping = grouping_places fields q in
-    let fs = aggregate_functions fields q in
-    let filters = filter_tests fields q in
+    let plan = c.args.plan.now in
+    let grouping = grouping_places plan.fields plan.query in
+    let fs = aggregate_functions plan.fields plan.query in
+    let filters = filter_tests plan in
     let row = c.args.taken.now in
-    let before = kept_records fields q rows in
+    let before = kept_records plan.fields plan.query rows in
     let new = c.add.new.self in
-    let is : is_kept fields q row ≡ true = search rules in
-    let all : kept_records fields q (rows ++ row ∷ []) ≡ before ++ row ∷ [] = kept-append fields q rows (row ∷ []) ∙ ap (λ b. before ++ cond b (row ∷ []) []) is in
+    let is : is_kept plan.fields plan.query row ≡ true = search rules in
+    let all : kept_records plan.fields plan.query (rows ++ row ∷ []) ≡ before ++ row ∷ [] = kept-append plan rows (row ∷ []) ∙ ap (λ b. before ++ cond b (row ∷ []) []) is in
     let marks : c.as_slice.result.now ≡ map (λ keeps. keeps (data_of c.values.result.now)) filters =
-    c.as_slice.ensures.value ∙ c.in_ok-mark_filters.ensures.marks ∙ marks-kept fields (filters_of fields q) row
+    c.as_slice.ensures.value ∙ c.in_ok-mark_filters.ensures.marks ∙ marks-kept plan.fields (filters_of plan.fields plan.query) row
     ∙ ap (λ (r : Row). map (λ keeps. keeps r) filters) (sym c.values.ensures.values) in
-    let bound_are : map (aggregate_of filters) c.set_functions.result.now ≡ fs = ap (map (aggregate_of filters)) c.set_functions.ensures.functions ∙ bound-functions fields q in
+    let bound_are : map (aggregate_of filters) c.set_functions.result.now ≡ fs = ap (map (aggregate_of filters)) c.set_functions.ensures.functions ∙ bound-functions plan in
     let old : IsTableOf c.grouping.result.now (map (aggregate_of filters) c.set_functions.result.now) c.args.self.now.table before =
     subst (λ set. IsTableOf set (map (aggregate_of filters) c.set_functions.result.now) c.args.self.now.table before) (sym c.grouping.ensures.grouping)
     (subst (λ (gs : List AggregateFunction). IsTableOf grouping gs c.args.self.now.table before) (sym bound_are) given) in

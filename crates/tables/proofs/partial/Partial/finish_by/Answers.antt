@@ -1,10 +1,9 @@
-use Rattle.std.proofs.Common.{◌∙◌, List, sym, ap, subst}
+use Rattle.std.proofs.Common.{◌∙◌, List, sym, ap, subst, refl}
 use Rattle.query_resolve.specs.Functions.{indexed_functions}
 use Rattle.tables_groups.specs.Bags.{SameBag}
 use Rattle.semantics.specs.Groups.{Row}
 use Rattle.semantics.specs.Found.{Found, query_found}
 use Rattle.tables.specs.Notes.{notes_in}
-use Rattle.tables.specs.Partials.{StandsFor}
 use Rattle.tables.specs.Pieces.{AreNumbered, records_of}
 use Rattle.tables.specs.Planned.{AreFittingUnder}
 use Rattle.tables.specs.Sound.{IsTypedTableUnder}
@@ -12,6 +11,7 @@ use Rattle.tables.specs.States.{PartialState}
 use Rattle.tables.proofs.Cutting.{cut-records, cut-refused}
 use Rattle.tables.proofs.Numbered.{lines-in_order, lines-numbered, numbered-in_order}
 use Rattle.tables.proofs.Sound.{counted-few}
+use Rattle.tables.proofs.Standing.{has-from}
 use Rattle.tables.proofs.partial.Partial.finish_by.Goals as goal
 
 pub rows_of-requires-clause-few : goal.rows_of-requires-clause-few
@@ -29,46 +29,41 @@ new-requires g c =
 pub returns : goal.returns
 returns g c = record {
   rows = λ pieces given.
-      let fields = c.args.plan.now.fields in
-      let q = c.args.plan.now.query in
-      let p = subst (λ (v : PartialState). StandsFor fields q v pieces) (sym c.self.view_is) given in
-      subst (λ (fs : List Found). SameBag fs (query_found fields q (records_of fields pieces))) (sym c.new.ensures.rows)
-      (c.in_ok-rows.ensures.rows (records_of fields pieces) p.table);
+      let plan = c.args.plan.now in
+      let p = has-from plan _ (notes_in c.self.inside.notes) pieces refl (c.self.view_is ∙ given) in
+      subst (λ (fs : List Found). SameBag fs (query_found plan.fields plan.query (records_of plan.fields pieces))) (sym c.new.ensures.rows)
+      (c.in_ok-rows.ensures.rows (records_of plan.fields pieces) p.table);
   fit =
       let plan = c.args.plan.now in
       let typed = subst (λ (v : PartialState). IsTypedTableUnder plan v.table) (sym c.self.view_is) c.requires.sound.typed in
       subst (AreFittingUnder plan) (sym c.new.ensures.rows) (c.in_ok-rows.ensures.fit typed);
   members = λ pieces given.
-      let fields = c.args.plan.now.fields in
-      let q = c.args.plan.now.query in
-      let p = subst (λ (v : PartialState). StandsFor fields q v pieces) (sym c.self.view_is) given in
-      let rows = records_of fields pieces in
-      c.members_law.ensures fields q c.new.result rows
-      (subst (λ (fs : List Found). SameBag fs (query_found fields q rows)) (sym c.new.ensures.rows)
+      let plan = c.args.plan.now in
+      let p = has-from plan _ (notes_in c.self.inside.notes) pieces refl (c.self.view_is ∙ given) in
+      let rows = records_of plan.fields pieces in
+      c.members_law.ensures plan c.new.result rows
+      (subst (λ (fs : List Found). SameBag fs (query_found plan.fields plan.query rows)) (sym c.new.ensures.rows)
       (c.in_ok-rows.ensures.rows rows p.table));
   numbered = λ pieces given own.
-      let fields = c.args.plan.now.fields in
-      let q = c.args.plan.now.query in
-      let p = subst (λ (v : PartialState). StandsFor fields q v pieces) (sym c.self.view_is) given in
-      subst (AreNumbered fields pieces) (sym c.new.ensures.refused)
-      (lines-numbered fields pieces (notes_in c.self.inside.notes) c.in_ok-refused.refused.items own p.notes c.in_ok-refused.ensures);
+      let plan = c.args.plan.now in
+      let p = has-from plan _ (notes_in c.self.inside.notes) pieces refl (c.self.view_is ∙ given) in
+      subst (AreNumbered plan.fields pieces) (sym c.new.ensures.refused)
+      (lines-numbered plan.fields pieces (notes_in c.self.inside.notes) c.in_ok-refused.refused.items own p.notes c.in_ok-refused.ensures);
   refused = λ pieces given o.
-      let fields = c.args.plan.now.fields in
-      let q = c.args.plan.now.query in
-      let p = subst (λ (v : PartialState). StandsFor fields q v pieces) (sym c.self.view_is) given in
+      let plan = c.args.plan.now in
+      let p = has-from plan _ (notes_in c.self.inside.notes) pieces refl (c.self.view_is ∙ given) in
       c.new.ensures.refused
-      ∙ lines-in_order fields pieces (notes_in c.self.inside.notes) c.in_ok-refused.refused.items o p.notes c.in_ok-refused.ensures
-      ∙ numbered-in_order fields pieces o;
+      ∙ lines-in_order plan.fields pieces (notes_in c.self.inside.notes) c.in_ok-refused.refused.items o p.notes c.in_ok-refused.ensures
+      ∙ numbered-in_order plan.fields pieces o;
   whole = λ input pieces given w.
-      let fields = c.args.plan.now.fields in
-      let q = c.args.plan.now.query in
-      let p = subst (λ (v : PartialState). StandsFor fields q v pieces) (sym c.self.view_is) given in
+      let plan = c.args.plan.now in
+      let p = has-from plan _ (notes_in c.self.inside.notes) pieces refl (c.self.view_is ∙ given) in
       record {
-        rows = subst (λ (rows : List Row). SameBag c.new.result.found (query_found fields q rows)) (cut-records fields input pieces w)
-            (subst (λ (fs : List Found). SameBag fs (query_found fields q (records_of fields pieces))) (sym c.new.ensures.rows)
-            (c.in_ok-rows.ensures.rows (records_of fields pieces) p.table));
+        rows = subst (λ (rows : List Row). SameBag c.new.result.found (query_found plan.fields plan.query rows)) (cut-records plan.fields input pieces w)
+            (subst (λ (fs : List Found). SameBag fs (query_found plan.fields plan.query (records_of plan.fields pieces))) (sym c.new.ensures.rows)
+            (c.in_ok-rows.ensures.rows (records_of plan.fields pieces) p.table));
         refused = c.new.ensures.refused
-            ∙ lines-in_order fields pieces (notes_in c.self.inside.notes) c.in_ok-refused.refused.items w.in_order p.notes c.in_ok-refused.ensures
-            ∙ cut-refused fields input pieces w;
+            ∙ lines-in_order plan.fields pieces (notes_in c.self.inside.notes) c.in_ok-refused.refused.items w.in_order p.notes c.in_ok-refused.ensures
+            ∙ cut-refused plan.fields input pieces w;
       };
 }

@@ -5,7 +5,7 @@ use Rattle.semantics.specs.Conditions.{kept_records}
 use Rattle.tables.specs.Folding.{valid_records_of}
 use Rattle.tables_groups.specs.Bags.{SameBag}
 use Rattle.semantics.specs.Groups.{Row}
-use Rattle.tables_groups.specs.Inside.Table.{IsCounted, IsTableOf}
+use Rattle.tables_groups.specs.Table.{IsCounted, IsTableOf}
 use Rattle.query_resolve.specs.declared.function.FilteredFunction.{FilteredFunction}
 use Rattle.tables.specs.Notes.{Noted, note_in, note_of}
 use Rattle.semantics.specs.Found.{aggregate_functions}
@@ -13,6 +13,7 @@ use Rattle.tables.proofs.Growing.{lines-more, notes-more, records-more, refused-
 use Rattle.tables.proofs.Merging.{one-note}
 use Rattle.tables.proofs.Reading.{length-valid_of, length-kept, length-lines, length-refused_of}
 use Rattle.tables.proofs.Sound.{table-counted}
+use Rattle.tables.proofs.Standing.{stands-from}
 use Rattle.tables.proofs.partial.Partial.fold_piece_by.Goals as goal
 
 pub read_onto-requires : goal.read_onto-requires
@@ -24,23 +25,22 @@ read_onto-requires g c = ∣ record {
 
 pub invariant_of-result : goal.invariant_of-result
 invariant_of-result g c =
-    let fields = c.args.plan.now.fields in
-    let q = c.args.plan.now.query in
+    let plan = c.args.plan.now in
     let shape = c.in_ok-shape.shape in
     let ls = lines c.args.piece.now in
     let read = c.in_ok-table.ensures.read [] c.in_ok-empty.ensures in
     let folding = c.in_ok-table.field-0 in
-    let valid = length-valid_of fields ls in
-    let few = length-kept fields q (valid_records_of fields ls) in
+    let valid = length-valid_of plan.fields ls in
+    let few = length-kept plan (valid_records_of plan.fields ls) in
     let count = read.lines in
     let short = length-lines c.args.piece.now in
     let notes = one-note c.in_ok-notes.notes.items _ c.in_ok-notes.ensures c.in_ok-table.ensures.numbered in (
       omega (arith, count, short, c.requires),
       (
-        (let r = c.in_ok-table.ensures.refused in let m = length-refused_of fields ls in omega (arith, r, m, count)),
+        (let r = c.in_ok-table.ensures.refused in let m = length-refused_of plan.fields ls in omega (arith, r, m, count)),
         (
           subst (λ (fs : List FilteredFunction). IsCounted folding.lines fs folding.table) (sym c.in_ok-shape.ensures.functions)
-              (table-counted fields q folding.table (kept_records fields q (valid_records_of fields ls)) folding.lines read.table (omega (arith, valid, few, count))),
+              (table-counted plan folding.table (kept_records plan.fields plan.query (valid_records_of plan.fields ls)) folding.lines read.table (omega (arith, valid, few, count))),
           (
             notes.0,
             (notes.1, tt),
@@ -51,21 +51,18 @@ invariant_of-result g c =
 
 pub returns : goal.returns
 returns g c =
-    let fields = c.args.plan.now.fields in
-    let q = c.args.plan.now.query in
+    let plan = c.args.plan.now in
     let bytes = c.args.piece.now in
     let folding = c.in_ok-table.field-0 in
     let read = c.in_ok-table.ensures.read [] c.in_ok-empty.ensures in
-    record {
-      stands = record {
-        sets = c.in_ok-shape.ensures.sets;
-        functions = c.in_ok-shape.ensures.functions;
-        filters = c.in_ok-shape.ensures.filters;
-        table = subst (λ (rows : List Row). IsTableOf (grouping_places fields q) (aggregate_functions fields q) folding.table (kept_records fields q rows)) (sym (records-more fields [] c.args.index bytes)) read.table;
-        lines = (let y = read.lines in let z = lines-more [] c.args.index bytes in omega (arith, y, z));
-        refused = (let y = read.count in let z = refused-more fields [] c.args.index bytes in omega (arith, y, z));
-        notes = subst (λ (ns : List Noted). SameBag (map (note_of fields) (record { index = c.args.index; bytes = bytes } ∷ [])) ns)
-            (sym (ap (map note_in) c.in_ok-notes.ensures))
-            (notes-more fields [] [] c.args.index bytes folding.lines folding.refusals read.lines read.refused (λ f. refl));
-      };
-    }
+    stands-from plan _ (map note_in c.in_ok-notes.notes.items) (record { index = c.args.index; bytes = bytes } ∷ []) refl (record {
+      sets = c.in_ok-shape.ensures.sets;
+      functions = c.in_ok-shape.ensures.functions;
+      filters = c.in_ok-shape.ensures.filters;
+      table = subst (λ (rows : List Row). IsTableOf (grouping_places plan.fields plan.query) (aggregate_functions plan.fields plan.query) folding.table (kept_records plan.fields plan.query rows)) (sym (records-more plan.fields [] c.args.index bytes)) read.table;
+      lines = (let y = read.lines in let z = lines-more [] c.args.index bytes in omega (arith, y, z));
+      refused = (let y = read.count in let z = refused-more plan.fields [] c.args.index bytes in omega (arith, y, z));
+      notes = subst (λ (ns : List Noted). SameBag (map (note_of plan.fields) (record { index = c.args.index; bytes = bytes } ∷ [])) ns)
+          (sym (ap (map note_in) c.in_ok-notes.ensures))
+          (notes-more plan.fields [] [] c.args.index bytes folding.lines folding.refusals read.lines read.refused (λ f. refl));
+    })

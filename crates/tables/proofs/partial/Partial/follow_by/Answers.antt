@@ -1,19 +1,16 @@
-use Rattle.std.proofs.Common.{◌≡◌, ◌+◌, ◌<◌, ◌≤◌, ◌^◌, ◌++◌, List, All, sym, ap, subst, ◌∙◌, arith}
-use Rattle.semantics.specs.Groups.{Row}
-use Rattle.semantics.specs.Sets.{grouping_places}
-use Rattle.query_resolve.specs.Functions.{indexed_functions}
-use Rattle.tables_groups.specs.Inside.Table.{IsTableOf}
-use Rattle.semantics.specs.Found.{aggregate_functions}
-use Rattle.tables.specs.Notes.{notes_in}
-use Rattle.tables.specs.Pieces.{records_of}
-use Rattle.tables.specs.Partials.{StandsFor}
+use Rattle.std.proofs.Common.{◌≡◌, ◌+◌, ◌<◌, ◌≤◌, ◌^◌, [], ◌∷◌, ◌++◌, List, All, map, refl, sym, ap, subst, ◌∙◌, arith}
+use Rattle.semantics.specs.Order.{in_order}
+use Rattle.tables_groups.specs.Table.{IsCounted, both_tables}
+use Rattle.tables.specs.Notes.{note_in, note_order, notes_in}
+use Rattle.tables.specs.Partials.{HasOwnIndexes, concatenation, note_of_one}
+use Rattle.tables.specs.declared.piece_refusals.PieceRefusals.{PieceRefusals}
 use Rattle.tables.specs.States.{PartialState}
-use Rattle.semantics.specs.Conditions.{kept_records}
-use Rattle.tables.proofs.Following.{behind-within, followed-count, followed-lines, followed-note, followed-records, followed-refused, lines-within, whole-lines}
+use Rattle.tables.specs.contracts.partial.Partial as partial
+use Rattle.tables.proofs.Following.{behind-within, lines-within}
 use Rattle.tables.proofs.Merging.{one-note}
-use Rattle.tables.proofs.Reading.{kept-append}
-use Rattle.tables.proofs.Sound.{counted-can_join, counted-either, typed-either}
-use Rattle.tables.specs.Sound.{IsSoundUnder}
+use Rattle.tables.proofs.NotesInOrder.{lines-own}
+use Rattle.tables.proofs.Sound.{counted-both, counted-can_join}
+use Rattle.tables.proofs.Standing.{concatenation-from}
 use Rattle.tables.proofs.partial.Partial.follow_by.Goals as goal
 
 pub merge_tables-requires-clause-mergeable : goal.merge_tables-requires-clause-mergeable
@@ -62,7 +59,8 @@ invariant_of-result g c =
       (
         (let x = a.fewer in let y = b.fewer in omega (arith, x, y)),
         (
-          counted-either a.shape.functions.items b.shape.functions.items a.lines b.lines a.table b.table functions a.within b.within c.in_ok-merged.merged c.in_ok-merged.ensures.groups,
+          subst (IsCounted (a.lines + b.lines) a.shape.functions.items) (sym c.in_ok-merged.ensures.merged)
+              (counted-both a.shape.functions.items b.shape.functions.items a.lines b.lines a.table b.table functions a.within b.within),
           (
             notes.0,
             (notes.1, tt),
@@ -72,38 +70,28 @@ invariant_of-result g c =
     )
 
 pub returns-clause-stands : goal.returns-clause-stands
-returns-clause-stands g c = λ fields q front back given other whole.
+returns-clause-stands g c = λ own others.
     let a = c.self.inside in
     let b = c.rest.inside in
-    let p = subst (λ (v : PartialState). StandsFor fields q v given.pieces) (sym c.self.view_is) given.stands in
-    let m = subst (λ (v : PartialState). StandsFor fields q v other.pieces) (sym c.rest.view_is) other.stands in
-    let found = c.in_ok-gathered.gathered in
-    let all = c.gather_behind.new.gathered in
-    let count = followed-lines front back given.pieces other.pieces whole given.cut other.cut in
-    let refused = followed-refused fields front back given.pieces other.pieces (notes_in a.notes) (notes_in b.notes) _ found all whole given.cut other.cut p.notes m.notes c.in_ok-gathered.ensures c.in_ok-gather_behind.ensures
-    (let x = p.lines in omega (arith, x)) in
-    record {
-      sets = p.sets;
-      functions = p.functions;
-      filters = p.filters;
-      table = subst (λ (rows : List Row). IsTableOf (grouping_places fields q) (aggregate_functions fields q) c.in_ok-merged.merged rows)
-          (sym (ap (kept_records fields q) (followed-records fields front back given.pieces other.pieces whole given.cut other.cut) ∙ kept-append fields q (records_of fields given.pieces) (records_of fields other.pieces)))
-          (c.in_ok-merged.ensures.merged (grouping_places fields q) (aggregate_functions fields q) (kept_records fields q (records_of fields given.pieces)) (kept_records fields q (records_of fields other.pieces)) p.table m.table);
-      lines = (let x = p.lines in let y = m.lines in let z = whole-lines (front ++ back) in omega (arith, x, y, z, count));
-      refused = (let x = p.refused in let y = m.refused in let z = followed-count fields front back given.pieces other.pieces whole given.cut other.cut in omega (arith, x, y, z));
-      notes = followed-note fields (front ++ back) c.in_ok-notes.notes.items _ c.in_ok-notes.ensures (omega arith) (let x = p.lines in let y = m.lines in omega (arith, x, y, count)) refused;
-    }
+    let first = lines-own (notes_in a.notes) c.in_ok-gathered.gathered (subst (λ (v : PartialState). HasOwnIndexes v) (sym c.self.view_is) own) c.in_ok-gathered.ensures in
+    let behind = c.in_ok-gather_behind.ensures in
+    let second = lines-own (notes_in b.notes) behind.lines (subst (λ (v : PartialState). HasOwnIndexes v) (sym c.rest.view_is) others) behind.of_notes in
+    concatenation-from (partial.the_view a) (partial.the_view b) _ refl refl refl c.in_ok-merged.ensures.merged refl refl
+    (ap (λ (ns : List PieceRefusals). in_order note_order (map note_in ns)) c.in_ok-notes.ensures
+    ∙ ap (λ found. note_of_one (a.lines + b.lines) found ∷ []) (behind.behind ∙ (λ i. first i ++ map (λ line. (a.lines + line.0, line.1)) (second i))))
+    ∙ (λ i. concatenation (c.self.view_is i) (c.rest.view_is i))
 
-pub returns-clause-sound : goal.returns-clause-sound
-returns-clause-sound g c = λ plan given other.
-    let a = c.self.inside in
-    let b = c.rest.inside in
-    let p = subst (IsSoundUnder plan) (sym c.self.view_is) given in
-    let m = subst (IsSoundUnder plan) (sym c.rest.view_is) other in
+pub returns-clause-groups : goal.returns-clause-groups
+returns-clause-groups g c =
+    let a = c.self.view_is in
+    let b = c.rest.view_is in
     record {
-      sets = p.sets;
-      functions = p.functions;
-      filters = p.filters;
-      typed = typed-either plan.fields (grouping_places plan.fields plan.query) (indexed_functions plan.fields plan.query) a.table b.table c.in_ok-merged.merged p.typed m.typed
-          c.in_ok-merged.ensures.groups;
+      shape = record {
+        sets = sym (ap (λ (v : PartialState). v.sets) a);
+        functions = sym (ap (λ (v : PartialState). v.functions) a);
+        filters = sym (ap (λ (v : PartialState). v.filters) a);
+      };
+      table = c.in_ok-merged.ensures.merged ∙ (λ i. both_tables (a i).table (b i).table);
+      lines = λ i. (a i).lines + (b i).lines;
+      refused = λ i. (a i).refused + (b i).refused;
     }

@@ -3,7 +3,9 @@ use Rattle.std.proofs.lemmas.List.Elements.{All-same}
 use Rattle.semantics.specs.declared.line_fault.LineFault.{LineFault}
 use Rattle.query_resolve.specs.Functions.{indexed_functions}
 use Rattle.semantics.specs.Sets.{grouping_places}
-use Rattle.tables.specs.Notes.{Noted, note_in}
+use Rattle.semantics.specs.Order.{in_order}
+use Rattle.tables.specs.Notes.{Noted, note_in, note_order}
+use Rattle.tables.specs.declared.piece_refusals.PieceRefusals.{PieceRefusals}
 use Rattle.tables.proofs.Merging.{one-note}
 use Rattle.tables.proofs.Sound.{counted-more, empty-counted, empty-entries, empty-typed}
 use Rattle.tables.proofs.partial.Partial.without_groups.Goals as goal
@@ -33,20 +35,19 @@ invariant_of-result g c =
 
 pub returns-clause-sound : goal.returns-clause-sound
 returns-clause-sound g c =
-    let fields = c.args.plan.now.fields in
-    let q = c.args.plan.now.query in
+    let plan = c.args.plan.now in
     record {
       sets = c.in_ok-shape.ensures.sets;
       functions = c.in_ok-shape.ensures.functions;
       filters = c.in_ok-shape.ensures.filters;
-      typed = empty-typed fields (grouping_places fields q) (indexed_functions fields q) c.in_ok-table.table c.in_ok-table.ensures.none;
+      typed = empty-typed plan.fields (grouping_places plan.fields plan.query) (indexed_functions plan.fields plan.query) c.in_ok-table.table c.in_ok-table.ensures.none;
     }
 
 pub returns-clause-refusals : goal.returns-clause-refusals
 returns-clause-refusals g c = record {
   lines = refl;
   refused = (let n = c.len-count.ensures in let ok = c.args.refused.ok in omega (arith, n, ok));
-  notes = ap (map note_in) c.in_ok-notes.ensures ∙ ap (λ (ls : List (ℕ × LineFault)). noted c.args.lines ls ∷ []) (c.in_ok-refusals.ensures ∙ c.as_slice.ensures.value);
+  notes = ap (λ (ns : List PieceRefusals). in_order note_order (map note_in ns)) c.in_ok-notes.ensures ∙ ap (λ (ls : List (ℕ × LineFault)). noted c.args.lines ls ∷ []) (c.in_ok-refusals.ensures ∙ c.as_slice.ensures.value);
 }
 
 pub returns-clause-groups : goal.returns-clause-groups

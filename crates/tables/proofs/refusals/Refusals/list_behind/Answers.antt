@@ -1,7 +1,7 @@
 use Rattle.std.proofs.Common.{◌+◌, ◌<◌, ◌^◌, ◌++◌, map, ap, ◌∙◌}
 use Rattle.std.proofs.lemmas.List.Elements.{All-same}
 use Rattle.std.proofs.lemmas.Result.{on_ok_weaker}
-use Rattle.tables.specs.Refusals.{lines_of_runs}
+use Rattle.tables.specs.Inside.Refusals.{lines_of_runs}
 use Rattle.tables.proofs.refusals.Refusals.list_behind.Goals as goal
 
 pub list_runs-requires : goal.list_runs-requires

@@ -1,6 +1,6 @@
 use Rattle.std.proofs.Common.{IfSome, List, ℕ, Option, refl, sym, subst}
 use Rattle.std.proofs.lemmas.Result.{IfOk-weaker}
-use Rattle.tables_groups.specs.Inside.Table.{Contents}
+use Rattle.tables_groups.specs.Table.{Contents}
 use Rattle.tables_groups.specs.Rolled.{AreAmong}
 use Rattle.tables.specs.SetTables.{IsRolledOutOf}
 use Rattle.tables.proofs.SetTables.{roll-kept, some-of_ok}

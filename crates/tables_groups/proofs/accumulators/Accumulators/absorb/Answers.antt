@@ -1,7 +1,9 @@
 use Rattle.std.proofs.Common.{rules, ◌≡◌, ◌+◌, ◌<◌, suc, List, ◌∷◌, set, length, map, sym, ap, subst, ◌∙◌, arith, add-one, length-set}
 use Rattle.std.proofs.lemmas.List.{length-map}
-use Rattle.tables_groups.specs.Inside.Accumulator.{AccumulatorState, state_in, IsWithin}
-use Rattle.tables_groups.specs.Inside.Group.{GroupState, joint_states, IsSound}
+use Rattle.tables_groups.specs.Accumulator.{AccumulatorState}
+use Rattle.tables_groups.specs.Inside.Accumulator.{state_in, IsWithin}
+use Rattle.tables_groups.specs.Group.{GroupState, joint_states}
+use Rattle.tables_groups.specs.Inside.Group.{IsSound}
 use Rattle.tables_groups.proofs.Keeping.{joint_states-sound, more-sound, sound-set, unbounded-within, joint_states_from, joint_states_from-within, joint_states_from-step, joint_states_from-all, joint_states_from-room}
 use Rattle.tables_groups.proofs.accumulators.Accumulators.absorb.Goals as goal
 

@@ -1,6 +1,7 @@
 use Rattle.std.proofs.Common.{◌≡◌, ◌+◌, length, map}
 use Rattle.tables_groups.specs.Inside.Accumulator.{state_in}
-use Rattle.tables_groups.specs.Inside.Group.{joint_states, IsSound}
+use Rattle.tables_groups.specs.Group.{joint_states}
+use Rattle.tables_groups.specs.Inside.Group.{IsSound}
 use Rattle.tables_groups.proofs.Keeping.{joint_states_from}
 use Rattle.tables_groups.proofs.accumulators.Accumulators.absorb.Given as goal
 

@@ -3,8 +3,10 @@ use Rattle.std.proofs.lemmas.List.{length-map}
 use Rattle.values.specs.Datum.{data_of}
 use Rattle.semantics.specs.declared.function.ColumnFunction.TheVariants.{CountRows}
 use Rattle.query_resolve.specs.declared.function.FilteredFunction.{FilteredFunction}
-use Rattle.tables_groups.specs.Inside.Accumulator.{AccumulatorState, state_in, IsWithin}
-use Rattle.tables_groups.specs.Inside.Group.{GroupState, all_with_row, IsSound}
+use Rattle.tables_groups.specs.Accumulator.{AccumulatorState}
+use Rattle.tables_groups.specs.Inside.Accumulator.{state_in, IsWithin}
+use Rattle.tables_groups.specs.Group.{GroupState}
+use Rattle.tables_groups.specs.Inside.Group.{all_with_row, IsSound}
 use Rattle.tables_groups.proofs.Keeping.{all_with_row-sound, more-sound, sound-set, unbounded-within, taken_from, taken_from-step, taken_from-all, taken_from-within, taken_from-room}
 use Rattle.tables_groups.proofs.accumulators.Accumulators.add.Goals as goal
 

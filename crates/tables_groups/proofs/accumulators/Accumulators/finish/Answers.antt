@@ -1,7 +1,7 @@
 use Rattle.std.proofs.Common.{◌≡◌, ℕ, List, [], ◌∷◌, map, refl, ap, ◌∙◌}
 use Rattle.tables_groups.specs.declared.accumulator.Accumulator.{Accumulator}
 use Rattle.tables_groups.specs.Inside.Accumulator.{state_in, summary}
-use Rattle.tables_groups.specs.Inside.Group.{GroupState}
+use Rattle.tables_groups.specs.Group.{GroupState}
 use Rattle.tables_groups.proofs.accumulators.Accumulators.finish.Goals as goal
 
 each-summary : (lines : ℕ) (parts : List Accumulator) → map (λ part. summary lines (state_in part)) parts ≡ map (summary lines) (map state_in parts)

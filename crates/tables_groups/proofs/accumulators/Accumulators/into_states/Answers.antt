@@ -1,8 +1,8 @@
 use Rattle.std.proofs.Common.{map, ap, sym, ◌∙◌}
 use Rattle.std.proofs.lemmas.Simd.{map-map}
 use Rattle.tables_groups.specs.Inside.Accumulator.{state_in}
-use Rattle.tables_groups.specs.Inside.Entries.{plain_state}
-use Rattle.tables_groups.specs.Inside.Group.{GroupState}
+use Rattle.tables_groups.specs.Entries.{plain_state}
+use Rattle.tables_groups.specs.Group.{GroupState}
 use Rattle.tables_groups.proofs.accumulators.Accumulators.into_states.Goals as goal
 
 pub returns-clause-states : goal.returns-clause-states

@@ -1,5 +1,5 @@
 use Rattle.std.proofs.Common.{take, sym, subst, List}
-use Rattle.tables_groups.specs.Inside.Accumulator.{AccumulatorState}
+use Rattle.tables_groups.specs.Accumulator.{AccumulatorState}
 use Rattle.tables_groups.specs.Inside.Group.{IsSound}
 use Rattle.tables_groups.proofs.Keeping.{none-sound}
 use Rattle.tables_groups.proofs.accumulators.Accumulators.new.Goals as goal

@@ -1,6 +1,7 @@
 use Rattle.std.proofs.Common.{◌≡◌, ◌⊎◌, inl, inr, ◌∷◌, ◌++◌, List, length, map, ap, sym, subst, arith, ◌∙◌}
 use Rattle.group_states.specs.States.{states_of}
-use Rattle.tables_groups.specs.Inside.Accumulator.{AccumulatorState, state_in}
+use Rattle.tables_groups.specs.Accumulator.{AccumulatorState}
+use Rattle.tables_groups.specs.Inside.Accumulator.{state_in}
 use Rattle.tables_groups.specs.Inside.Entries.{kept_states}
 use Rattle.tables_groups.specs.Inside.Group.{IsSound}
 use Rattle.tables_groups.proofs.Plain.{kept-end, kept-more, within-kept_states}

@@ -3,7 +3,7 @@ use Rattle.std.proofs.lemmas.Result.{on_ok_weaker}
 use Rattle.std.specs.FinSet as set
 use Rattle.values.specs.Datum.{datum_of}
 use Rattle.semantics.specs.Aggregates.{is_present}
-use Rattle.tables_groups.specs.Inside.Values.{Values}
+use Rattle.tables_groups.specs.Values.{Values}
 use Rattle.tables_groups.specs.Inside.ValueSets.{shown}
 use Rattle.tables_groups.proofs.Sets.{union-absent, union-present}
 use Rattle.tables_groups.proofs.distinct_values.DistinctValues.add.Goals as goal

@@ -1,7 +1,8 @@
 use Rattle.std.proofs.Common.{◌≡◌, [], ◌∷◌, ap, sym, arith, ◌∙◌}
 use Rattle.std.specs.FinSet as set
 use Rattle.values.specs.Datum.{data_of, datum_of}
-use Rattle.tables_groups.specs.Inside.Values.{Values, set_of, values_in}
+use Rattle.tables_groups.specs.Values.{Values, set_of}
+use Rattle.tables_groups.specs.Inside.Values.{values_in}
 use Rattle.tables_groups.specs.Inside.ValueSets.{shown}
 use Rattle.tables_groups.proofs.Sets.{moved, union-empty, union-flip}
 use Rattle.tables_groups.proofs.Walks.{none_left}

@@ -3,7 +3,7 @@ use Rattle.semantics.specs.Groups.{project}
 use Rattle.semantics.specs.Values.{null}
 use Rattle.sort_keys.specs.Codes.{value_code}
 use Rattle.sort_keys.specs.Decoding.{KeyOf}
-use Rattle.tables_groups.specs.Inside.Keys.{key_in}
+use Rattle.tables_groups.specs.Keys.{key_in}
 use Rattle.tables_groups.proofs.Packing.{code-more, key-told, piece-at, places-code}
 use Rattle.tables_groups.proofs.packed_key.PackedKey.rewrite_from.Goals as goal
 

@@ -4,7 +4,7 @@ use Rattle.std.specs.List.{AllByRecursion}
 use Rattle.semantics.specs.Groups.{Key}
 use Rattle.sort_keys.specs.Codes.{value_code, values_code}
 use Rattle.sort_keys.specs.Decoding.{IsStorable}
-use Rattle.tables_groups.specs.Inside.Keys.{key_in}
+use Rattle.tables_groups.specs.Keys.{key_in}
 use Rattle.tables_groups.proofs.Packing.{all-pieces, next-piece}
 use Rattle.tables_groups.proofs.packed_key.PackedKey.split.Goals as goal
 

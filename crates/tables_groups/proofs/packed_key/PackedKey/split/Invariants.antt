@@ -3,7 +3,7 @@ use Rattle.std.specs.List.{AllByRecursion}
 use Rattle.semantics.specs.Groups.{Key}
 use Rattle.sort_keys.specs.Codes.{value_code, values_code}
 use Rattle.sort_keys.specs.Decoding.{IsStorable}
-use Rattle.tables_groups.specs.Inside.Keys.{key_in}
+use Rattle.tables_groups.specs.Keys.{key_in}
 use Rattle.tables_groups.proofs.packed_key.PackedKey.split.Given as goal
 
 -- the pieces so far, with those of the values that the rest is the code of, are those of the key

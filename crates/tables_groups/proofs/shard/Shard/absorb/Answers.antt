@@ -1,15 +1,15 @@
 use Rattle.std.proofs.Common.{◌≡◌, ◌∷◌, Option, IfSome, ap, sym, subst, ◌∙◌}
 use Rattle.tables_groups.specs.declared.packed_key.PackedKey.{PackedKey}
-use Rattle.tables_groups.specs.Inside.Keys.{key_in}
+use Rattle.tables_groups.specs.Keys.{key_in}
 use Rattle.std.proofs.lemmas.Map.Iter.{rest_more}
 use Rattle.std.proofs.lemmas.Map.Keys.{IsDistinct-tail}
 use Rattle.std.specs.FinMap.{get, find, get-from_entries}
 use Rattle.std.specs.List.{IsDistinct}
 use Rattle.std.specs.Map.{keys_of}
 use Rattle.semantics.specs.Groups.{Key, key_order}
-use Rattle.tables_groups.specs.Inside.Group.{GroupState}
-use Rattle.tables_groups.specs.Inside.Shards.{contents_in}
-use Rattle.tables_groups.specs.Inside.Table.{IsFitting, joint_option, entries_by_key}
+use Rattle.tables_groups.specs.Group.{GroupState}
+use Rattle.tables_groups.specs.Shards.{contents_in}
+use Rattle.tables_groups.specs.Table.{IsFitting, joint_option, entries_by_key}
 use Rattle.tables_groups.proofs.Order.{key_total}
 use Rattle.tables_groups.proofs.Entries.{key_eq, merged_step, fits_step, find-first}
 use Rattle.tables_groups.proofs.shard.Shard.absorb.Goals as goal

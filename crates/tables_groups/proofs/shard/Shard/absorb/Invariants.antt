@@ -4,8 +4,8 @@ use Rattle.std.specs.Map.{keys_of}
 use Rattle.std.specs.FinMap.{get, find}
 use Rattle.semantics.specs.Groups.{Key, key_order}
 use Rattle.tables_groups.specs.Inside.Keys.{key_eq}
-use Rattle.tables_groups.specs.Inside.Shards.{contents_in}
-use Rattle.tables_groups.specs.Inside.Table.{IsFitting, joint_option, entries_by_key}
+use Rattle.tables_groups.specs.Shards.{contents_in}
+use Rattle.tables_groups.specs.Table.{IsFitting, joint_option, entries_by_key}
 use Rattle.tables_groups.proofs.shard.Shard.absorb.Given as goal
 
 -- the groups so far with those that are left are those of both, and what is left fits

@@ -1,12 +1,13 @@
 use Rattle.std.proofs.Common.{◌≡◌, ◌∙◌, refl, ap, sym, subst, Option, Some, None, IsSome}
-use Rattle.tables_groups.specs.Inside.Keys.{key_eq, key_in}
+use Rattle.tables_groups.specs.Inside.Keys.{key_eq}
+use Rattle.tables_groups.specs.Keys.{key_in}
 use Rattle.std.proofs.lemmas.Result.{on_ok_weaker}
 use Rattle.std.specs.FinMap as fin
 use Rattle.std.specs.Option.{option_copied_mut, is_some}
 use Rattle.std.specs.Map.{lookup}
 use Rattle.semantics.specs.Groups.{same_key}
-use Rattle.tables_groups.specs.Inside.Group.{GroupState}
-use Rattle.tables_groups.specs.Inside.Shards.{contents_in}
+use Rattle.tables_groups.specs.Group.{GroupState}
+use Rattle.tables_groups.specs.Shards.{contents_in}
 use Rattle.tables_groups.specs.Inside.Table.{IsTaken, group_with_part}
 use Rattle.tables_groups.proofs.Entries.{got-by, group_with_part-by, taken-first, updated-elsewhere, elsewhere-after}
 use Rattle.tables_groups.proofs.shard.Shard.put.Goals as goal

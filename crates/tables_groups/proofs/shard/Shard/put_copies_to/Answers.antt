@@ -2,8 +2,8 @@ use Rattle.std.proofs.Common.{◌≡◌, ◌∷◌, [], ap, sym, subst, ◌∙�
 use Rattle.tables_groups.specs.declared.packed_key.PackedKey.{PackedKey}
 use Rattle.std.proofs.lemmas.Map.Iter.{rest_more, rest_all}
 use Rattle.std.specs.Map.Iter.{deref_pair}
-use Rattle.tables_groups.specs.Inside.Group.{GroupState}
-use Rattle.tables_groups.specs.Inside.Shards.{entries_in}
+use Rattle.tables_groups.specs.Group.{GroupState}
+use Rattle.tables_groups.specs.Shards.{entries_in}
 use Rattle.tables_groups.specs.Inside.Table.{TakesEach, group_with_entries}
 use Rattle.tables_groups.proofs.Entries.{Entries}
 use Rattle.tables_groups.proofs.shard.Shard.put_copies_to.Goals as goal

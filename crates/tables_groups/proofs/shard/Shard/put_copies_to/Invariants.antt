@@ -1,5 +1,5 @@
 use Rattle.std.proofs.Common.{◌≡◌}
-use Rattle.tables_groups.specs.Inside.Shards.{entries_in}
+use Rattle.tables_groups.specs.Shards.{entries_in}
 use Rattle.tables_groups.specs.Inside.Table.{TakesEach, group_with_entries}
 use Rattle.tables_groups.proofs.shard.Shard.put_copies_to.Given as goal
 

@@ -1,12 +1,13 @@
 use Rattle.std.proofs.Common.{◌≡◌, ◌∙◌, ap, sym, Some, None, IsSome}
-use Rattle.tables_groups.specs.Inside.Keys.{key_eq, key_in}
+use Rattle.tables_groups.specs.Inside.Keys.{key_eq}
+use Rattle.tables_groups.specs.Keys.{key_in}
 use Rattle.std.proofs.lemmas.Result.{on_ok_weaker}
 use Rattle.std.specs.FinMap as fin
 use Rattle.std.specs.Option.{option_copied_mut, is_some}
 use Rattle.std.specs.Map.{lookup}
-use Rattle.tables_groups.specs.Inside.Group.{joint_group}
-use Rattle.tables_groups.specs.Inside.Shards.{contents_in}
-use Rattle.tables_groups.specs.Inside.Table.{joint_option, contents_of}
+use Rattle.tables_groups.specs.Group.{joint_group}
+use Rattle.tables_groups.specs.Shards.{contents_in}
+use Rattle.tables_groups.specs.Table.{joint_option, contents_of}
 use Rattle.tables_groups.proofs.Entries.{get-updated, get-shown, put_is, updated-elsewhere, elsewhere-after}
 use Rattle.tables_groups.proofs.shard.Shard.put_group.Goals as goal
 

@@ -7,8 +7,8 @@ use Rattle.semantics.specs.Aggregates.{AggregateFunction}
 use Rattle.tables_groups.specs.GroupSummaries.{group_summary_in}
 use Rattle.semantics.specs.Groups.{Row}
 use Rattle.tables_groups.specs.declared.group.Group.{Group}
-use Rattle.tables_groups.specs.Inside.Shards.{all_entries}
-use Rattle.tables_groups.specs.Inside.Table.{IsTableOf, entries_by_key}
+use Rattle.tables_groups.specs.Shards.{all_entries}
+use Rattle.tables_groups.specs.Table.{IsTableOf, entries_by_key}
 use Rattle.tables_groups.proofs.Distinct.{distinct-shown}
 use Rattle.tables_groups.proofs.Entries.{Entries}
 use Rattle.tables_groups.proofs.GroupsLaw.{lines-bag}

@@ -5,7 +5,8 @@ use Rattle.std.specs.FinMap as fin
 use Rattle.tables_groups.specs.Functions.{aggregate_of}
 use Rattle.semantics.specs.Groups.{Key, Row}
 use Rattle.tables_groups.specs.Inside.Group.{no_group}
-use Rattle.tables_groups.specs.Inside.Table.{Contents, IsPut, IsTableOf}
+use Rattle.tables_groups.specs.Table.{Contents, IsTableOf}
+use Rattle.tables_groups.specs.Inside.Table.{IsPut}
 use Rattle.tables_groups.proofs.Meaning.{table-empty_set, table-no_group}
 use Rattle.tables_groups.proofs.table.Table.for_hands.Goals as goal
 

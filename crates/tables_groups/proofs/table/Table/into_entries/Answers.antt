@@ -2,8 +2,8 @@ use Rattle.std.proofs.Common.{◌≡◌, Vec, Global, ap, ◌∙◌}
 use Rattle.std.proofs.lemmas.Result.{IfOk-weaker}
 use Rattle.group_states.specs.States.{entries_of}
 use Rattle.group_states.specs.declared.entry.GroupEntry.{GroupEntry}
-use Rattle.tables_groups.specs.Inside.Entries.{table_entries}
-use Rattle.tables_groups.specs.Inside.Shards.{contents_of_shards}
+use Rattle.tables_groups.specs.Entries.{table_entries}
+use Rattle.tables_groups.specs.Shards.{contents_of_shards}
 use Rattle.tables_groups.proofs.table.Table.into_entries.Goals as goal
 
 pub returns : goal.returns

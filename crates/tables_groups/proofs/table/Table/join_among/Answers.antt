@@ -1,6 +1,6 @@
 use Rattle.std.proofs.Common.{◌≡◌, length, subst, sym, arith}
-use Rattle.tables_groups.specs.Inside.Shards.{contents_of_shards}
-use Rattle.tables_groups.specs.Inside.Table.{CanJoin, Contents, IsJoined}
+use Rattle.tables_groups.specs.Shards.{contents_of_shards}
+use Rattle.tables_groups.specs.Table.{CanJoin, Contents, IsJoined}
 use Rattle.tables_groups.proofs.Shards.{all-joined, each-can_join, within-all}
 use Rattle.tables_groups.proofs.table.Table.join_among.Goals as goal
 

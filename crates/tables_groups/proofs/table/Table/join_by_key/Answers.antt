@@ -3,10 +3,10 @@ use Rattle.std.specs.FinMap.{get, find, get-from_entries}
 use Rattle.std.specs.List.{IsDistinct}
 use Rattle.std.specs.Map.{keys_of}
 use Rattle.semantics.specs.Groups.{Key, key_order}
-use Rattle.tables_groups.specs.Inside.Group.{GroupState}
+use Rattle.tables_groups.specs.Group.{GroupState}
 use Rattle.tables_groups.specs.Inside.Keys.{key_eq}
-use Rattle.tables_groups.specs.Inside.Shards.{all_entries}
-use Rattle.tables_groups.specs.Inside.Table.{Contents, IsFitting, joint_option, entries_by_key}
+use Rattle.tables_groups.specs.Shards.{all_entries}
+use Rattle.tables_groups.specs.Table.{Contents, IsFitting, joint_option, entries_by_key}
 use Rattle.tables_groups.specs.declared.shard.Shard.{Shard}
 use Rattle.tables_groups.proofs.Entries.{options-none}
 use Rattle.tables_groups.proofs.Order.{key_total}

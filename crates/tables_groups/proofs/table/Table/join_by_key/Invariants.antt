@@ -4,8 +4,8 @@ use Rattle.std.specs.Map.{keys_of}
 use Rattle.std.specs.FinMap.{get, find}
 use Rattle.semantics.specs.Groups.{Key, key_order}
 use Rattle.tables_groups.specs.Inside.Keys.{key_eq}
-use Rattle.tables_groups.specs.Inside.Shards.{all_entries}
-use Rattle.tables_groups.specs.Inside.Table.{IsFitting, joint_option, entries_by_key}
+use Rattle.tables_groups.specs.Shards.{all_entries}
+use Rattle.tables_groups.specs.Table.{IsFitting, joint_option, entries_by_key}
 use Rattle.tables_groups.proofs.table.Table.join_by_key.Given as goal
 
 -- the groups so far with those of the shards that are left are those of both, and what is left fits

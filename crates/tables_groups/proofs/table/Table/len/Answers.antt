@@ -3,8 +3,8 @@ use Rattle.std.proofs.lemmas.List.{take_all}
 use Rattle.std.proofs.lemmas.List.Concat.{length-flat_map}
 use Rattle.std.proofs.lemmas.List.Sums.{sum_by_more}
 use Rattle.std.specs.FinMap as fin
-use Rattle.tables_groups.specs.Inside.Table.{Contents}
-use Rattle.tables_groups.specs.Inside.Shards.{all_entries, entries_in}
+use Rattle.tables_groups.specs.Table.{Contents}
+use Rattle.tables_groups.specs.Shards.{all_entries, entries_in}
 use Rattle.tables_groups.specs.declared.shard.Shard.{Shard}
 use Rattle.tables_groups.proofs.Entries.{len-entries}
 use Rattle.tables_groups.proofs.Shards.{distinct-all}

@@ -2,9 +2,10 @@ use Rattle.std.proofs.Common.{sym, subst, Option}
 use Rattle.std.proofs.lemmas.Result.{on_ok_weaker}
 use Rattle.std.specs.FinMap as fin
 use Rattle.semantics.specs.Groups.{Key}
-use Rattle.tables_groups.specs.Inside.Keys.{key_in}
-use Rattle.tables_groups.specs.Inside.Group.{GroupState}
-use Rattle.tables_groups.specs.Inside.Table.{Contents, IsTaken, IsWithPart}
+use Rattle.tables_groups.specs.Keys.{key_in}
+use Rattle.tables_groups.specs.Group.{GroupState}
+use Rattle.tables_groups.specs.Table.{Contents}
+use Rattle.tables_groups.specs.Inside.Table.{IsTaken, IsWithPart}
 use Rattle.tables_groups.proofs.table.Table.put.Goals as goal
 
 pub put_by_key-requires : goal.put_by_key-requires

@@ -2,10 +2,11 @@ use Rattle.std.proofs.Common.{◌≡◌, ◌∙◌, ap, sym, subst, arith, lengt
 use Rattle.std.proofs.lemmas.Result.{on_ok_weaker}
 use Rattle.std.specs.FinMap as fin
 use Rattle.semantics.specs.Groups.{Key}
-use Rattle.tables_groups.specs.Inside.Keys.{key_in}
-use Rattle.tables_groups.specs.Inside.Group.{GroupState}
-use Rattle.tables_groups.specs.Inside.Shards.{AreApart, contents_in, contents_of_shards, shard_index}
-use Rattle.tables_groups.specs.Inside.Table.{Contents, IsTaken, IsWithPart, group_with_part}
+use Rattle.tables_groups.specs.Keys.{key_in}
+use Rattle.tables_groups.specs.Group.{GroupState}
+use Rattle.tables_groups.specs.Shards.{AreApart, contents_in, contents_of_shards, shard_index}
+use Rattle.tables_groups.specs.Table.{Contents}
+use Rattle.tables_groups.specs.Inside.Table.{IsTaken, IsWithPart, group_with_part}
 use Rattle.tables_groups.specs.declared.shard.Shard.{Shard}
 use Rattle.tables_groups.proofs.Shards.{all-changed, apart-changed, get-place, within-all}
 use Rattle.tables_groups.proofs.table.Table.put_by_key.Goals as goal

@@ -5,8 +5,9 @@ use Rattle.semantics.specs.Groups.{Key}
 use Rattle.values.specs.Datum.{data_of}
 use Rattle.group_states.specs.States.{entry_of}
 use Rattle.tables_groups.specs.Inside.Entries.{kept_group}
-use Rattle.tables_groups.specs.Inside.Keys.{key_in}
-use Rattle.tables_groups.specs.Inside.Table.{IsFitting, IsPut}
+use Rattle.tables_groups.specs.Keys.{key_in}
+use Rattle.tables_groups.specs.Table.{IsFitting}
+use Rattle.tables_groups.specs.Inside.Table.{IsPut}
 use Rattle.tables_groups.proofs.Appended.{counted-more, fits-behind, kept-there, list-more}
 use Rattle.tables_groups.proofs.TypedEntries.{typed-more}
 use Rattle.tables_groups.proofs.table.Table.put_entry.Goals as goal

@@ -1,11 +1,12 @@
 use Rattle.std.proofs.Common.{◌≡◌, ◌∙◌, ap, sym, subst, arith, length, get_or, set, Option, Some}
-use Rattle.tables_groups.specs.Inside.Keys.{key_in}
+use Rattle.tables_groups.specs.Keys.{key_in}
 use Rattle.std.proofs.lemmas.Result.{on_ok_weaker}
 use Rattle.std.specs.FinMap as fin
 use Rattle.semantics.specs.Groups.{Key}
-use Rattle.tables_groups.specs.Inside.Group.{GroupState}
-use Rattle.tables_groups.specs.Inside.Shards.{AreApart, contents_in, contents_of_shards, shard_index}
-use Rattle.tables_groups.specs.Inside.Table.{Contents, IsFitting, IsPut, joint_option}
+use Rattle.tables_groups.specs.Group.{GroupState}
+use Rattle.tables_groups.specs.Shards.{AreApart, contents_in, contents_of_shards, shard_index}
+use Rattle.tables_groups.specs.Table.{Contents, IsFitting, joint_option}
+use Rattle.tables_groups.specs.Inside.Table.{IsPut}
 use Rattle.tables_groups.specs.declared.shard.Shard.{Shard}
 use Rattle.tables_groups.proofs.Shards.{all-changed, apart-changed, get-place, within-all}
 use Rattle.tables_groups.proofs.table.Table.put_to_group.Goals as goal

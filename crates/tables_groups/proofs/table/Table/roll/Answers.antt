@@ -1,6 +1,6 @@
 use Rattle.std.proofs.Common.{◌≡◌, ◌+◌, ◌<◌, ◌++◌, [], ◌∷◌, ℕ, arith, List, Some, None, drop, length, map, refl, sym, ap, subst, ◌∙◌}
 use Rattle.tables_groups.specs.declared.packed_key.PackedKey.{PackedKey}
-use Rattle.tables_groups.specs.Inside.Keys.{key_in}
+use Rattle.tables_groups.specs.Keys.{key_in}
 use Rattle.std.proofs.lemmas.Result.{IfOk-weaker}
 use Rattle.std.proofs.lemmas.List.{drop_more, drop_all}
 use Rattle.std.proofs.lemmas.Map.Iter.{rest_more, rest_all}
@@ -10,11 +10,12 @@ use Rattle.std.specs.Map.Iter.{deref_pair}
 use Rattle.std.specs.FinMap as fin
 use Rattle.semantics.specs.Groups.{Key, project}
 use Rattle.tables_groups.specs.Functions.{aggregate_of}
-use Rattle.tables_groups.specs.Inside.Group.{GroupState}
-use Rattle.tables_groups.specs.Inside.Shards.{AreApart, all_entries, contents_of_shards, entries_in}
+use Rattle.tables_groups.specs.Group.{GroupState}
+use Rattle.tables_groups.specs.Shards.{AreApart, all_entries, contents_of_shards, entries_in}
 use Rattle.tables_groups.specs.Rolled.{rolled_key}
-use Rattle.tables_groups.specs.Inside.Table.{Contents, IsEnlarged, IsFittingNew, IsTableOf, contents_of}
-use Rattle.tables_groups.specs.Inside.Typed.{KeepsTypes}
+use Rattle.tables_groups.specs.Table.{Contents, IsTableOf, contents_of}
+use Rattle.tables_groups.specs.Inside.Table.{IsEnlarged, IsFittingNew}
+use Rattle.tables_groups.specs.Typed.{KeepsTypes}
 use Rattle.tables_groups.specs.declared.shard.Shard.{Shard}
 use Rattle.tables_groups.proofs.Entries.{Entries, key_eq}
 use Rattle.tables_groups.proofs.Counted.{IsCountedWith, counted-end, counted-fitting, counted-start, counted-step, entries-counted, no-groups, parts-counted}

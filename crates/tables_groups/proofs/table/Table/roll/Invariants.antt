@@ -1,13 +1,13 @@
 use Rattle.std.proofs.Common.{◌≡◌, ◌+◌, ◌++◌, ℕ, Bool, List, Some, drop, map}
-use Rattle.tables_groups.specs.Inside.Keys.{key_in}
+use Rattle.tables_groups.specs.Keys.{key_in}
 use Rattle.std.specs.List.{AllByRecursion}
 use Rattle.std.specs.FinMap as fin
 use Rattle.semantics.specs.Groups.{Row}
 use Rattle.tables_groups.specs.Functions.{aggregate_of}
-use Rattle.tables_groups.specs.Inside.Shards.{all_entries}
+use Rattle.tables_groups.specs.Shards.{all_entries}
 use Rattle.semantics.specs.Columns.{Field}
-use Rattle.tables_groups.specs.Inside.Table.{IsCounted, IsTableOf}
-use Rattle.tables_groups.specs.Inside.Typed.{HaveColumns, IsTypedTable}
+use Rattle.tables_groups.specs.Table.{IsCounted, IsTableOf}
+use Rattle.tables_groups.specs.Typed.{HaveColumns, IsTypedTable}
 use Rattle.tables_groups.proofs.Counted.{IsCountedWith}
 use Rattle.tables_groups.proofs.Rolling.{IsRolled}
 use Rattle.tables_groups.proofs.table.Table.roll.Given as goal

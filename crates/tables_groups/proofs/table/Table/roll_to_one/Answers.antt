@@ -3,11 +3,13 @@ use Rattle.std.proofs.lemmas.List.{drop_more, drop_all}
 use Rattle.std.specs.List.{IsDistinct}
 use Rattle.std.specs.Map.{keys_of}
 use Rattle.std.specs.FinMap as fin
-use Rattle.tables_groups.specs.Inside.Keys.{key_in}
+use Rattle.tables_groups.specs.Keys.{key_in}
 use Rattle.semantics.specs.Groups.{Key, key_order}
-use Rattle.tables_groups.specs.Inside.Group.{GroupState, no_group}
-use Rattle.tables_groups.specs.Inside.Shards.{AreApart, all_entries, contents_of_shards, entries_in}
-use Rattle.tables_groups.specs.Inside.Table.{Contents, IsFitting, IsPut, TakesEach, contents_of, group_with_entries}
+use Rattle.tables_groups.specs.Group.{GroupState}
+use Rattle.tables_groups.specs.Inside.Group.{no_group}
+use Rattle.tables_groups.specs.Shards.{AreApart, all_entries, contents_of_shards, entries_in}
+use Rattle.tables_groups.specs.Table.{Contents, IsFitting, contents_of}
+use Rattle.tables_groups.specs.Inside.Table.{IsPut, TakesEach, group_with_entries}
 use Rattle.tables_groups.specs.declared.shard.Shard.{Shard}
 use Rattle.tables_groups.proofs.Entries.{Entries, key_eq}
 use Rattle.tables_groups.proofs.Counted.{counted-one, takes-few}

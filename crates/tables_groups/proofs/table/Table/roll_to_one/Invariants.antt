@@ -1,6 +1,6 @@
 use Rattle.std.proofs.Common.{◌≡◌, drop}
 use Rattle.tables_groups.specs.Inside.Group.{no_group}
-use Rattle.tables_groups.specs.Inside.Shards.{all_entries}
+use Rattle.tables_groups.specs.Shards.{all_entries}
 use Rattle.tables_groups.specs.Inside.Table.{TakesEach, group_with_entries}
 use Rattle.tables_groups.proofs.table.Table.roll_to_one.Given as goal
 

@@ -1,9 +1,9 @@
 use Rattle.std.proofs.Common.{Option, sym, subst}
 use Rattle.std.specs.FinMap as fin
-use Rattle.tables_groups.specs.Inside.Keys.{key_in}
+use Rattle.tables_groups.specs.Keys.{key_in}
 use Rattle.semantics.specs.Groups.{key_order}
-use Rattle.tables_groups.specs.Inside.Group.{GroupState}
-use Rattle.tables_groups.specs.Inside.Table.{Contents, IsFitting}
+use Rattle.tables_groups.specs.Group.{GroupState}
+use Rattle.tables_groups.specs.Table.{Contents, IsFitting}
 use Rattle.tables_groups.proofs.table.Table.with_empty_key.Goals as goal
 
 pub put_to_group-requires : goal.put_to_group-requires

@@ -1,5 +1,5 @@
 use Rattle.std.proofs.Common.{◌≡◌, []}
-use Rattle.tables_groups.specs.Inside.Shards.{all_entries}
+use Rattle.tables_groups.specs.Shards.{all_entries}
 use Rattle.std.specs.Prelude.{vec_len}
 use Rattle.tables_groups.proofs.table.Table.without_groups.Given as goal
 

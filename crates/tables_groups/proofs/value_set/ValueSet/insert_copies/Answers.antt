@@ -4,7 +4,8 @@ use Rattle.std.specs.FinSet as set
 use Rattle.std.specs.Map.Iter.{deref}
 use Rattle.values.specs.Datum.{datum_of, data_of}
 use Rattle.values.specs.declared.value.Value.{Value}
-use Rattle.tables_groups.specs.Inside.Values.{Values, values_in}
+use Rattle.tables_groups.specs.Values.{Values}
+use Rattle.tables_groups.specs.Inside.Values.{values_in}
 use Rattle.tables_groups.specs.Inside.ValueSets.{shown}
 use Rattle.tables_groups.proofs.Sets.{union-empty, moved}
 use Rattle.tables_groups.proofs.value_set.ValueSet.insert_copies.Goals as goal

@@ -3,7 +3,8 @@ use Rattle.std.proofs.lemmas.Map.Iter.{rest_more, rest_all}
 use Rattle.std.specs.FinSet as set
 use Rattle.values.specs.Datum.{datum_of, data_of}
 use Rattle.values.specs.declared.value.Value.{Value}
-use Rattle.tables_groups.specs.Inside.Values.{Values, values_in}
+use Rattle.tables_groups.specs.Values.{Values}
+use Rattle.tables_groups.specs.Inside.Values.{values_in}
 use Rattle.tables_groups.specs.Inside.ValueSets.{shown}
 use Rattle.tables_groups.proofs.Sets.{union-empty, moved}
 use Rattle.tables_groups.proofs.value_set.ValueSet.insert_each.Goals as goal

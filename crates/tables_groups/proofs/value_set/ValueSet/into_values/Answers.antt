@@ -2,7 +2,7 @@ use Rattle.std.proofs.Common.{◌≡◌, Vec, Global, [], ◌∷◌, sym, ap, �
 use Rattle.std.proofs.lemmas.Result.{IfOk-weaker}
 use Rattle.values.specs.Datum.{data_of}
 use Rattle.values.specs.declared.value.Value.{Value}
-use Rattle.tables_groups.specs.Inside.Entries.{ascending_values}
+use Rattle.tables_groups.specs.Entries.{ascending_values}
 use Rattle.tables_groups.specs.Inside.ValueSets.{shown}
 use Rattle.tables_groups.proofs.SetListing.{none-listed, one-listed}
 use Rattle.tables_groups.proofs.value_set.ValueSet.into_values.Goals as goal

@@ -10,11 +10,11 @@ returns-then-is_empty c =
     let none : c.args.input.now ≡ [] = nil_from_length c.args.input.now (grind (arith, nat_tests, c.is_empty.ensures, c.if-is_empty.true)) in
     IfOk-weaker c.empty.result _ _
     (λ _ stands. record { pieces = []; stands = stands; cut = record { in_order = λ k lt. absurd (omega (arith, lt)); joined = sym none; feeds = tt } })
-    c.empty.ensures.stands
+    c.empty.ensures
 
 pub returns : goal.returns
 returns c =
     let input = c.args.input.now in
     IfOk-weaker c.fold_piece.result _ _
     (λ _ stands. record { pieces = whole_piece input; stands = stands; cut = record { in_order = λ k lt. absurd (omega (arith, lt)); joined = append-nil input; feeds = tt } })
-    c.fold_piece.ensures.stands
+    c.fold_piece.ensures

@@ -1,0 +1,3 @@
+-- What contracts of private calls alone say: no contract of a public call rests on it.
+pub mod Faults
+pub mod Pieces

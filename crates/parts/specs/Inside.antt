@@ -1,0 +1,7 @@
+-- What contracts of private calls alone say: no contract of a public call rests on it.
+pub mod Faults
+pub mod Reader
+pub mod Texts
+pub mod Gathering
+pub mod Hashing
+pub mod Joining

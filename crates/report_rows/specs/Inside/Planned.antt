@@ -1,0 +1,9 @@
+-- What calls ask of a group under a plan.
+use Rattle.std.specs.Prelude.{◌∷◌, []}
+use Rattle.query_plan.specs.Planned.{PlannedQuery}
+use Rattle.semantics.specs.Found.{Found}
+use Rattle.tables_groups.specs.Fitting.{AreFitting}
+
+-- the row of a group fits the query
+abbrev pub FitsUnder : PlannedQuery → Found → Type 0
+FitsUnder plan row = AreFitting plan.fields plan.query (row ∷ [])

@@ -1,0 +1,2 @@
+-- What contracts of private calls alone say: no contract of a public call rests on it.
+pub mod Decoding

@@ -1,0 +1,7 @@
+use Rattle.std.proofs.lemmas.Result.{IfOk-weaker}
+use Rattle.tables.proofs.Standing.{partial-both}
+use Rattle.test_partials.proofs.tests.partials.merge_by_hands.Goals as goal
+
+pub returns : goal.returns
+returns g c =
+    IfOk-weaker c.merge_by.result _ _ (λ partial is. partial-both c.args.plan.now _ _ partial c.requires.left c.requires.right is) c.merge_by.ensures
