@@ -1,6 +1,6 @@
 """Parts, one behind the other, read by a plain reference: their contents, or their first fault.
 
-It is written from the definitions in crates/parts/specs and crates/part_groups/specs, and shares no code with the program.
+It is written from the definitions in crates/parts/specs and crates/part_lines/specs, and shares no code with the program.
 """
 import hashlib
 import json

@@ -5,8 +5,9 @@
 //! Example: under `d:text,q:int`, by the query `SELECT d, SUM(q) AS s FROM lines GROUP BY d`, over the lines
 //! `{"d":"x","q":5}` and `[1]`, it prints `2 lines, 1 refused, 1 groups`.
 
-ghost use Rattle.std.specs.Prelude.{◌≤◌, ◌<◌, ◌^◌, IfSome, length};
+ghost use Rattle.std.specs.Prelude.{◌≤◌, ◌<◌, IfSome, length};
 ghost use Rattle.tables.specs.Partials.{IsPartialOf};
+ghost use Rattle.semantics.specs.Limits.{input_limit};
 
 use crate::hands_of;
 use lines::cut;
@@ -48,7 +49,7 @@ pub(crate) fn result_of<R: Threads + Wait + Sync>(
     input: &[u8],
     hands: usize,
 ) -> Option<Partial>
-    requires short { length input.now < 2 ^ 63 }
+    requires short { length input.now < input_limit }
     requires hands { (1 ≤ hands) × (hands ≤ 64) }
     ensures of_plan { IfSome result (IsPartialOf plan.now) }
 {
@@ -83,7 +84,7 @@ fn work<R: Threads + Wait + Clock + Print + Eprint + Sync>(
     input: &[u8],
     hands: usize,
 ) -> io::Result<()>
-    requires short { length input.now < 2 ^ 63 }
+    requires short { length input.now < input_limit }
     requires hands { (1 ≤ hands) × (hands ≤ 64) }
 {
     let start = Instant::now(rt)?;

@@ -5,7 +5,8 @@
 //! Example: under `d:text,q:int`, by the query `SELECT d, SUM(q) AS s FROM lines GROUP BY d`, over the lines
 //! `{"d":"x","q":5}` and `[1]`, it prints `2 lines, 1 refused, 180 bytes`.
 
-ghost use Rattle.std.specs.Prelude.{◌≤◌, ◌<◌, ◌^◌, length};
+ghost use Rattle.std.specs.Prelude.{◌≤◌, ◌<◌, length};
+ghost use Rattle.semantics.specs.Limits.{input_limit};
 
 use crate::fold::{LONGEST, plan_of, result_of};
 use crate::hands_of;
@@ -29,7 +30,7 @@ fn work<R: Threads + Wait + Clock + Print + Eprint + Sync>(
     input: &[u8],
     hands: usize,
 ) -> io::Result<()>
-    requires short { length input.now < 2 ^ 63 }
+    requires short { length input.now < input_limit }
     requires hands { (1 ≤ hands) × (hands ≤ 64) }
 {
     let Some(result) = result_of(rt, alloc, plan, input, hands) else {

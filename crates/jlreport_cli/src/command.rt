@@ -9,11 +9,10 @@ use crate::arguments::{
     defaulted_option, flag, is_set, number_of, number_option, required_option, required_word,
     text_of,
 };
-use crate::options::Options;
 use crate::words::Settings;
 use clap::error::ErrorKind;
 use clap::{ArgMatches, Command, Error};
-use semantics::WordsFault;
+use semantics::{Options, WordsFault};
 use std::alloc::Global;
 
 /// What `--version` shows behind the program's name.

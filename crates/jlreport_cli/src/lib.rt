@@ -3,10 +3,8 @@
 
 mod arguments;
 mod command;
-mod options;
 mod words;
 
 pub use command::settings;
-pub use options::Options;
-pub use semantics::WordsFault;
+pub use semantics::{Options, WordsFault};
 pub use words::Settings;

@@ -1,6 +1,6 @@
 //! What the words of a command line ask for.
 
-use crate::options::Options;
+use semantics::Options;
 
 /// What a run of the program is asked for. The texts are those of the words, and are not copied.
 ///

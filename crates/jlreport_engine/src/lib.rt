@@ -4,7 +4,6 @@
 mod explaining;
 mod joining;
 mod parting;
-mod reporting;
 mod running;
 mod seeding;
 mod serving;

@@ -6,13 +6,12 @@ ghost use Rattle.semantics.specs.Run.{IsRun, IsWithin, refusals, report};
 ghost use Rattle.report.specs.Report.{refusals_of};
 ghost use Rattle.jlreport_engine.specs.Inside.Run.{StandsForKnown};
 
-use crate::reporting::ReportExecutor;
 use crate::seeding::random_seed;
 use crate::writing::{list_buffer, put_both};
 use jlreport_cli::Options;
 use jlreport_scan::{gather, gather_alone};
 use query::Plan;
-use report::arranged_law;
+use report::{arranged_law, report_on};
 use semantics::{Done, RunFault};
 use std::alloc::{AllocError, Global};
 use std::io::{Read, Write};
@@ -20,7 +19,7 @@ use std::marker::{Send, Sync};
 use std::random::RandomSource;
 use std::sync::Wait;
 use std::thread::Threads;
-use tables::{Groups, Parallel, Partial, Serial, sound_law};
+use tables::{Executor, Groups, Parallel, Partial, Serial, sound_law};
 
 /// What is written of an input, and all the memory that it takes to write it.
 #[derive(Drop)]
@@ -113,7 +112,7 @@ pub fn run_alone<R: Read + Drop, O: Write, E: Write>(
 
 /// Writes the report and the list of refused lines by a result. It does so as a run over the input that the result is
 /// known to stand for, if not more lines are refused than the limit.
-pub(crate) fn write_whole<X: ReportExecutor, O: Write, E: Write>(
+pub(crate) fn write_whole<X: Executor, O: Write, E: Write>(
     executor: &X,
     alloc: Global,
     plan: &Plan,
@@ -153,12 +152,12 @@ pub(crate) fn write_whole<X: ReportExecutor, O: Write, E: Write>(
     // one that lies with it.
     drop(report);
     drop(buffer);
-    executor.give_back(alloc, groups);
+    groups.give_back(executor, alloc);
     Ok(done)
 }
 
 /// What is written of an input, by the result over it.
-fn texts_of<X: ReportExecutor>(
+fn texts_of<X: Executor>(
     executor: &X,
     alloc: Global,
     plan: &Plan,
@@ -173,8 +172,8 @@ fn texts_of<X: ReportExecutor>(
         → StandsForInput plan.now partial input
         → refusals_of plan.now.fields texts.groups.refused ≡ refusals plan.now.fields input) }
 {
-    let groups = executor.groups(plan, partial)?;
-    let report = executor.report(alloc, &groups, plan)?;
+    let groups = partial.finish_by(executor, plan)?;
+    let report = report_on(executor, alloc, &groups, plan)?;
     let buffer = list_buffer(alloc, plan.schema(), groups.refused().len())?;
     // The groups came in the order of a walk over a table, which the report does not show.
     arranged_law();

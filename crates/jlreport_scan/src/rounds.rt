@@ -1,5 +1,5 @@
 //! The result of a query over an input that is read in rounds.
-ghost use Rattle.std.specs.Prelude.{◌≡◌, ◌≢◌, ◌+◌, ◌<◌, ◌≤◌, ◌^◌, ◌⊎◌, true, ℕ, All, IfErr, IfOk, List, Option, length, vec_len};
+ghost use Rattle.std.specs.Prelude.{◌≡◌, ◌≢◌, ◌+◌, ◌<◌, ◌≤◌, ◌⊎◌, true, ℕ, All, IfErr, IfOk, List, Option, length, vec_len};
 ghost use Rattle.lines.specs.Rounds.{HasMoved};
 ghost use Rattle.semantics.specs.Records.{refused_lines};
 ghost use Rattle.lines.specs.Pieces.{AreWholeLines};
@@ -8,13 +8,15 @@ ghost use Rattle.jlreport_scan.specs.Gathered.{IsGather, limit_number};
 ghost use Rattle.jlreport_scan.specs.Inside.Faults.{IsWant, Refuses};
 ghost use Rattle.jlreport_scan.specs.Faults.{Stops};
 ghost use Rattle.jlreport_scan.specs.Inside.Pieces.{IsAheadUnder, IsTaken, StandsBehind, most_turns};
+ghost use Rattle.semantics.specs.Limits.{input_limit};
+ghost use Rattle.pool.specs.Limits.{most_hands};
 
 use crate::fault::GatherFault;
 use crate::working::{RoundOutcome, Scan, check_limit, work_on_round};
-use jlreport_cli::Options;
 use lines::{Demand, ReadFault, Round, Rounds};
 use pool::{Book, Share};
 use query_plan::Plan;
+use semantics::Options;
 use std::alloc::Global;
 use std::io::Read;
 use std::marker::{Brand, Send, Sync};
@@ -265,8 +267,8 @@ fn work_and_read_on<L: Ledger + Send + Sync, R: Read + Drop + Send, H: Threads +
     requires front { (front : List ℕ)
         × StandsForInput scan.now.plan.now before front
         × AreWholeLines front }
-    requires short { before.lines + length round.now.bytes < 2 ^ 63 }
-    requires hands { (1 ≤ vec_len shares) × (vec_len shares ≤ 64) }
+    requires short { before.lines + length round.now.bytes < input_limit }
+    requires hands { (1 ≤ vec_len shares) × (vec_len shares ≤ most_hands) }
     requires reported { All (λ share. share.sum ≤ before.refused) shares.items }
     ensures read { HasMoved rounds result.found result.rounds }
     ensures whole { IfOk result.outcome (λ r. StandsBehind scan.now.plan.now before round.now.bytes r.whole) }
@@ -299,8 +301,8 @@ fn work_and_read_on<L: Ledger + Send + Sync, R: Read + Drop + Send, H: Threads +
             requires front { (front : List ℕ)
                 × StandsForInput scan.now.plan.now before front
                 × AreWholeLines front }
-            requires short { before.lines + length round.now.bytes < 2 ^ 63 }
-            requires hands { (1 ≤ vec_len shares) × (vec_len shares ≤ 64) }
+            requires short { before.lines + length round.now.bytes < input_limit }
+            requires hands { (1 ≤ vec_len shares) × (vec_len shares ≤ most_hands) }
             requires reported { All (λ share. share.sum ≤ before.refused) shares.items }
         {
             let outcome = work_on_round(scan, before, round.bytes(), shares);

@@ -1,5 +1,5 @@
 //! The result of a query over one round of an input behind the rounds before it, by its pieces.
-ghost use Rattle.std.specs.Prelude.{◌≡◌, ◌+◌, ◌<◌, ◌≤◌, ◌^◌, ◌⊎◌, ℕ, All, IfErr, IfOk, List, OnOk, length, vec_len};
+ghost use Rattle.std.specs.Prelude.{◌≡◌, ◌+◌, ◌<◌, ◌≤◌, ◌⊎◌, ℕ, All, IfErr, IfOk, List, OnOk, length, vec_len};
 ghost use Rattle.semantics.specs.Records.{refused_lines};
 ghost use Rattle.lines.specs.Pieces.{AreWholeLines};
 ghost use Rattle.pool.specs.declared.laws.Outcome.TheVariants as Outcome;
@@ -7,13 +7,15 @@ ghost use Rattle.tables.specs.Partials.{StandsForInput};
 ghost use Rattle.jlreport_scan.specs.Inside.Pieces.{IsTaken, IsUnder, StandsBehind};
 ghost use Rattle.jlreport_scan.specs.Gathered.{limit_number};
 ghost use Rattle.jlreport_scan.specs.Inside.Faults.{IsWant, Refuses};
+ghost use Rattle.semantics.specs.Limits.{input_limit};
+ghost use Rattle.pool.specs.Limits.{most_hands};
 
 use crate::cutting::pieces_of;
 use crate::fault::GatherFault;
-use jlreport_cli::Options;
 use lines::Piece;
 use pool::{Book, Hand, Outcome, Share, fan_deal_onto};
 use query_plan::Plan;
+use semantics::Options;
 use std::alloc::Global;
 use std::marker::{Send, Sync};
 use std::sync::Wait;
@@ -71,8 +73,8 @@ pub(crate) fn work_on_round<L: Ledger + Send + Sync, H: Threads + Wait + Sync>(
     requires front { (front : List ℕ)
         × StandsForInput scan.now.plan.now before front
         × AreWholeLines front }
-    requires short { before.lines + length round.now < 2 ^ 63 }
-    requires hands { (1 ≤ vec_len shares) × (vec_len shares ≤ 64) }
+    requires short { before.lines + length round.now < input_limit }
+    requires hands { (1 ≤ vec_len shares) × (vec_len shares ≤ most_hands) }
     requires reported { All (λ share. share.sum ≤ before.refused) shares.items }
     ensures whole { IfOk result (λ r. StandsBehind scan.now.plan.now before round.now r.whole) }
     ensures limit { IfOk result (λ r.
@@ -109,7 +111,6 @@ pub(crate) fn work_on_round<L: Ledger + Send + Sync, H: Threads + Wait + Sync>(
         pieces.len() as u32,
         limit,
         scan.book,
-        limit as u128,
         shares,
     )?;
     let whole = whole_of(scan.options, outcome)?;
@@ -130,7 +131,7 @@ fn limit_of(options: Options) -> u64
 
 /// The result that a pool answers; Over is the fault that too many lines are refused.
 fn whole_of(options: Options, outcome: Outcome<Partial>) -> Result<Partial, GatherFault>
-    requires { (count : ℕ) × (count < 2 ^ 63)
+    requires { (count : ℕ) × (count < input_limit)
         × IsUnder count (limit_number options.max_refused) outcome }
     ensures whole { IfOk result (λ partial. outcome ≡ Outcome.Whole partial) }
     ensures fault { (count : ℕ) → IsUnder count (limit_number options.max_refused) outcome

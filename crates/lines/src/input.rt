@@ -2,11 +2,12 @@
 ghost use Rattle.std.specs.Prelude.{◌≡◌, ◌+◌, ◌<◌, ◌≤◌, IfOk, OnOk};
 ghost use Rattle.lines.specs.Clip.{clipped_len};
 ghost use Rattle.lines.specs.Inside.Input.{ComesNear, GoesOn, HasAccount, HasAdded, HasBlock, IsReady, IsReadyFor};
+ghost use Rattle.lines.specs.declared.line_buffer.TheConstants.{READ_SLACK};
 
 use crate::demand::Demand;
 use crate::fault::ReadFault;
 use crate::line_buffer::{CLIPPED_LEN, GROWTH_STEP, LineBuffer};
-use crate::source::Source;
+use crate::source::ReaderAccount;
 use std::io::Read;
 
 /// About the length of a block that ends early: the first one, so that work begins soon, and one that is waited for.
@@ -15,7 +16,7 @@ pub(crate) const EARLY_BLOCK_LEN: usize = 8_388_608;
 /// A source, and the buffer that it is read into.
 #[derive(Drop)]
 pub(crate) struct Input<R: Read + Drop> {
-    pub(crate) source: Source<R>,
+    pub(crate) source: ReaderAccount<R>,
     pub(crate) held: LineBuffer,
 }
 
@@ -23,7 +24,7 @@ impl<R: Read + Drop> Input<R> {
     /// One read behind what is held. It answers how many bytes the reader gave.
     fn read_more(&mut self) -> Result<usize, ReadFault>
         requires ready { IsReady self.old }
-        requires room { self.old.held.filled < self.old.held.size + 65536 }
+        requires room { self.old.held.filled < self.old.held.size + READ_SLACK }
         ensures account { HasAccount R.remaining self.old result self.new }
         ensures goes_on { OnOk result (GoesOn R.remaining self.old self.new) }
         ensures added { IfOk result (λ count. HasAdded R.remaining self.old count self.new) }

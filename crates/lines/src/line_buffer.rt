@@ -2,6 +2,7 @@
 ghost use Rattle.std.specs.Prelude.{◌≡◌, ◌+◌, ◌-◌, ◌<◌, ◌≤◌, max, true, false, IsTrue, IsFalse, IfOk, length, take, vec_capacity, vec_len};
 ghost use Rattle.lines.specs.Pieces.{NoFeedBetween};
 ghost use Rattle.lines.specs.Clip.{clipped_len};
+ghost use Rattle.lines.specs.declared.line_buffer.TheConstants.{READ_SLACK};
 
 use memchr::{memchr, memrchr};
 use std::alloc::{AllocError, Global};
@@ -11,7 +12,7 @@ use std::mem;
 pub(crate) const CLIPPED_LEN: usize = 1_048_577;
 
 /// The slack of a buffer: the bytes that may be read beyond a round, so that no read has to be small.
-const READ_SLACK: usize = 65_536;
+pub(crate) const READ_SLACK: usize = 65_536;
 
 /// The bytes by which a buffer grows at a time, until it has its length.
 pub(crate) const GROWTH_STEP: usize = 1_048_576;
@@ -28,14 +29,14 @@ pub(crate) struct LineBuffer {
     pub(crate) size: usize,
     ghost ordered: { cut ≤ filled },
     ghost inside: { filled ≤ vec_len buffer },
-    ghost len: { vec_len buffer ≤ size + 65536 },
-    ghost room: { size + 65536 ≤ vec_capacity buffer },
+    ghost len: { vec_len buffer ≤ size + READ_SLACK },
+    ghost room: { size + READ_SLACK ≤ vec_capacity buffer },
 }
 
 /// A buffer for rounds of at most `size` bytes.
 pub(crate) fn buffer_of(alloc: Global, size: usize) -> Result<Vec<u8>, AllocError>
     ensures empty { IfOk result (λ v. vec_len v ≡ 0) }
-    ensures room { IfOk result (λ v. size + 65536 ≤ vec_capacity v) }
+    ensures room { IfOk result (λ v. size + READ_SLACK ≤ vec_capacity v) }
 {
     match size.checked_add(READ_SLACK) {
         Some(capacity) => Vec::with_capacity(alloc, capacity),
@@ -157,7 +158,7 @@ impl LineBuffer {
     /// Makes room behind the bytes that are held, where there is none: the buffer gets longer, for which it has the
     /// memory already. So memory that no byte comes to is never touched.
     pub(crate) fn make_room(&mut self)
-        requires { self.old.filled < self.old.size + 65536 }
+        requires { self.old.filled < self.old.size + READ_SLACK }
         ensures front { KeepsFront self.old self.new }
         ensures filled { self.new.filled ≡ self.old.filled }
         ensures room { self.new.filled < vec_len self.new.buffer }
@@ -198,8 +199,8 @@ impl LineBuffer {
 
     /// Swaps the buffer for another one, into which what follows the whole lines is copied.
     pub(crate) fn swap_buffer(&mut self, spare: Vec<u8>) -> Vec<u8>
-        requires len { vec_len spare ≤ self.old.size + 65536 }
-        requires capacity { self.old.size + 65536 ≤ vec_capacity spare }
+        requires len { vec_len spare ≤ self.old.size + READ_SLACK }
+        requires capacity { self.old.size + READ_SLACK ≤ vec_capacity spare }
         ensures buffer { result ≡ self.old.buffer }
         ensures lines { LetsGoLines self.old self.new }
         ensures full { self.new.full ≡ false }

@@ -2,12 +2,13 @@
 ghost use Rattle.std.specs.Prelude.{◌≡◌, ◌<◌, [], IfOk};
 ghost use Rattle.lines.specs.Rounds.{HasMoved, rounds_at_start};
 ghost use Rattle.lines.specs.Clip.{clipped_len};
+ghost use Rattle.lines.specs.declared.line_buffer.TheConstants.{READ_SLACK};
 
 use crate::demand::{Demand, NoDemand};
 use crate::fault::ReadFault;
 use crate::input::{EARLY_BLOCK_LEN, Input};
 use crate::line_buffer::{LineBuffer, buffer_of};
-use crate::source::Source;
+use crate::source::ReaderAccount;
 use std::alloc::{AllocError, Global};
 use std::io::Read;
 use std::marker::Model;
@@ -26,6 +27,7 @@ pub struct Round {
 impl Model for Round {
     ghost use Rattle.std.specs.Prelude.{◌≡◌, ◌+◌, ◌≤◌, take, vec_capacity, vec_len};
     ghost use Rattle.lines.specs.Rounds.{RoundState};
+    ghost use Rattle.lines.specs.declared.line_buffer.TheConstants.{READ_SLACK};
 
     ghost Value = { RoundState };
 
@@ -33,8 +35,8 @@ impl Model for Round {
         record { bytes = take inside.len inside.buffer.items; size = inside.size } };
 
     ghost invariant = { λ inside. (inside.len ≤ vec_len inside.buffer)
-        × (vec_len inside.buffer ≤ inside.size + 65536)
-        × (inside.size + 65536 ≤ vec_capacity inside.buffer) };
+        × (vec_len inside.buffer ≤ inside.size + READ_SLACK)
+        × (inside.size + READ_SLACK ≤ vec_capacity inside.buffer) };
 }
 
 impl Round {
@@ -133,7 +135,7 @@ impl<R: Read + Drop> Rounds<R> {
             rounds ≡ rounds_at_start reader (R.remaining reader) size) }
     {
         let held = LineBuffer::new(alloc, size)?;
-        let source = Source::new(reader);
+        let source = ReaderAccount::new(reader);
         Ok(Rounds {
             input: Input { source, held },
             aim: size.min(EARLY_BLOCK_LEN),

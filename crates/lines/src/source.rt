@@ -1,7 +1,8 @@
 //! A reader, and the account of what it answered.
-ghost use Rattle.std.specs.Prelude.{◌≡◌, ◌<◌, ◌^◌, false, IsErr, IsOk, IfOk, length, take};
+ghost use Rattle.std.specs.Prelude.{◌≡◌, ◌<◌, false, IsErr, IsOk, IfOk, length, take};
 ghost use Rattle.lines.specs.Inside.Input.{HasGot};
 ghost use Rattle.lines.specs.Rounds.{HasCause, HasRead};
+ghost use Rattle.semantics.specs.Limits.{input_limit};
 
 use crate::fault::ReadFault;
 use std::io::Read;
@@ -11,7 +12,7 @@ const INPUT_LIMIT: usize = 0x8000_0000_0000_0000;
 
 /// A reader, beside the account of what it answered. Nothing but a read changes these.
 #[derive(Drop)]
-pub(crate) struct Source<R: Read + Drop> {
+pub(crate) struct ReaderAccount<R: Read + Drop> {
     reader: R,
     /// How many bytes it gave.
     taken: usize,
@@ -19,14 +20,14 @@ pub(crate) struct Source<R: Read + Drop> {
     erred: bool,
 }
 
-impl<R: Read + Drop> Source<R> {
+impl<R: Read + Drop> ReaderAccount<R> {
     /// A reader that was not asked yet.
-    pub(crate) fn new(reader: R) -> Source<R>
+    pub(crate) fn new(reader: R) -> ReaderAccount<R>
         ensures reader { result.reader ≡ reader }
         ensures taken { result.taken ≡ 0 }
         ensures erred { result.erred ≡ false }
     {
-        Source {
+        ReaderAccount {
             reader,
             taken: 0,
             erred: false,
@@ -39,7 +40,7 @@ impl<R: Read + Drop> Source<R> {
     /// left to these lines.
     pub(crate) fn read(&mut self, buffer: &mut [u8], at: usize) -> Result<usize, ReadFault>
         requires room { at < length buffer.old }
-        requires limit { self.old.taken < 2 ^ 63 }
+        requires limit { self.old.taken < input_limit }
         ensures length { length buffer.new ≡ length buffer.old }
         ensures front { take at buffer.new ≡ take at buffer.old }
         ensures got { IfOk result (λ count.

@@ -1,3 +1,4 @@
+pub mod Bytes
 pub mod Meant
 pub mod Standing
 pub mod Inside

@@ -4,13 +4,14 @@ ghost use Rattle.std.specs.List.{prefix_len};
 ghost use Rattle.json.specs.Word.{is_space};
 ghost use Rattle.lines_json.specs.Inside.Contents.{is_word_end};
 ghost use Rattle.lines_json.specs.Standing.{lexemes};
+ghost use Rattle.lines_json.specs.Bytes.{byte_or_space};
 
 /// The byte at a place, and a space past the end.
 ///
 /// Example: of the text `{}` it answers `{` at 0, and a space at 2.
 #[inline(always)]
 pub fn byte_at(text: &[u8], at: usize) -> u8
-    ensures { result ≡ get_or text.now at 32 }
+    ensures { result ≡ byte_or_space text.now at }
 {
     if at < text.len() { text[at] } else { b' ' }
 }

@@ -4,6 +4,7 @@ ghost use Rattle.std.specs.Char.{digit_value, encode_utf8, is_digit};
 ghost use Rattle.json.specs.Lex.{in_string};
 ghost use Rattle.json.specs.Text.{after_high, after_u, is_high_surrogate, is_low_surrogate, surrogate_pair};
 ghost use Rattle.lines_json.specs.Inside.Contents.{IsEscapeAt, IsPartAt, IsShortEscape, code_unit_at};
+ghost use Rattle.lines_json.specs.Inside.Signs.{hexadecimal};
 
 use crate::bytes::byte_at;
 
@@ -115,7 +116,7 @@ fn code_unit(text: &[u8], at: usize) -> Option<u32>
 /// The value of a hexadecimal digit.
 fn hex_digit(byte: u8) -> Option<u32>
     ensures { IfSome result (λ value.
-        (is_digit byte 16 ≡ true) × (value ≡ digit_value byte) × (value < 16)) }
+        (is_digit byte hexadecimal ≡ true) × (value ≡ digit_value byte) × (value < hexadecimal)) }
 {
     (byte as char).to_digit(16)
 }

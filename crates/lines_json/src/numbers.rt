@@ -7,6 +7,7 @@ ghost use Rattle.json.specs.Word.{after_digits, after_exponent, after_fraction, 
 ghost use Rattle.serde_json.specs.Read.{number_of};
 ghost use Rattle.lines_json.specs.Inside.NumberParts.{IsNumberPart};
 ghost use Rattle.lines_json.specs.Standing.{IsTokenAt, IsWholeNumberAt};
+ghost use Rattle.lines_json.specs.Inside.Signs.{IsBetweenCommaAndColon};
 
 mod short;
 
@@ -190,7 +191,7 @@ fn last_digit_end(text: &[u8], from: usize) -> usize
 /// Whether a number may begin with a byte.
 #[inline(always)]
 fn begins_number(byte: u8) -> bool
-    ensures { IsTrue result → (44 < byte) × (byte < 58) }
+    ensures { IsTrue result → IsBetweenCommaAndColon byte }
 {
     byte == b'-' || byte.is_ascii_digit()
 }

@@ -4,8 +4,12 @@ ghost use Rattle.std.specs.List.{list_all};
 ghost use Rattle.std.specs.Simd.Lanes.{mask_l};
 ghost use Rattle.json.specs.Run.{is_plain, is_stop};
 ghost use Rattle.lines_json.specs.Inside.Contents.{IsPlainEnd};
+ghost use Rattle.lines_json.specs.declared.plain.TheConstants.{LANES};
 
 use std::simd::prelude::*;
+
+/// How many bytes are looked at together.
+const LANES: usize = 16;
 
 /// Whether a text is plain: each of its bytes stands for itself in a string.
 ///
@@ -39,7 +43,7 @@ pub(crate) fn plain_end(text: &[u8], from: usize) -> usize
 #[inline(never)]
 fn last_plain_end(text: &[u8], from: usize) -> usize
     requires within { from ≤ length text.now }
-    requires few { length text.now < from + 16 }
+    requires few { length text.now < from + LANES }
     ensures { IsPlainEnd text.now from result }
 {
     if text.len() < 16 {

@@ -14,16 +14,15 @@ use Rattle.semantics.specs.Syntax.{TreeForm}
 use Rattle.semantics.specs.Texts.{fault_text}
 use Rattle.semantics.specs.Values.{Datum, text}
 use Rattle.semantics.specs.declared.line_fault.LineFault.{LineFault}
-use Rattle.part_groups.proofs.Read as reading
-use Rattle.part_groups.proofs.Read.{count-read, groups-read, value-read, within-read}
-use Rattle.part_groups.proofs.ReadAs.{lines-first}
-use Rattle.part_groups.specs.Groups.{ShapeForm}
-use Rattle.part_groups.specs.Known.{AreGroupsFor, HaveValues}
-use Rattle.part_groups.specs.Reading.{Stream, behind, count_at, count_within, groups_at, reading_of, value_at}
-use Rattle.part_groups.specs.declared.fault.GroupFault.{GroupFault}
-use Rattle.parts.specs.Faults.{Fault, FaultKind, not_a_part, other_columns, other_query, out_of_order, out_of_range, too_many_lines, wrong_checksum}
+use Rattle.values.specs.Results.{◌>>=◌}
+use Rattle.part_lines.proofs.Read.{count-read, groups-read, value-read, within-read}
+use Rattle.part_lines.proofs.ReadAs.{lines-first}
+use Rattle.part_lines.specs.Groups.{ShapeForm}
+use Rattle.part_lines.specs.Known.{AreGroupsFor, HaveValues}
+use Rattle.part_lines.specs.Reading.{Stream, behind, count_at, count_within, fault_at, groups_at, passed, reading_of, value_at}
+use Rattle.part_lines.specs.Faults.{Fault, FaultKind, not_a_part, other_columns, other_query, out_of_order, out_of_range, too_many_lines, wrong_checksum}
 use Rattle.parts.specs.Shown.{shown}
-use Rattle.parts.specs.ReadingParts.{◌>>=◌, all_refused_at, can_have, checksum_at, contents_at, fault_at, fault_named, group_count_at, header_at, header_of, line_fault_in, lines_at, mark_at, of_part, other_at, other_text, part_at, passed, refused_at, refused_line_at, said_at, shape_under, text_at, with_fault}
+use Rattle.parts.specs.ReadingParts.{all_refused_at, can_have, checksum_at, contents_at, fault_named, group_count_at, header_at, header_of, line_fault_in, lines_at, mark_at, other_at, other_text, part_at, refused_at, refused_line_at, said_at, shape_under, text_at, with_fault}
 
 -- ---- what lines of values are read as
 
@@ -46,9 +45,6 @@ pub record AreContentsFor (fields : List Field) (q : TreeForm) (before : ℕ) (c
   pub groups : AreGroupsFor (shape_under fields q) (record { last = None; left = c.lines - length c.refused }) c.groups
 
 -- ---- one reading and then another one
-
-of_part-read : {A : Type 0} (one : Stream → Result (A × Stream) GroupFault) (ds : List Datum) (a : A) → reading.Reads one ds a → Reads (λ s. of_part (one s)) ds a
-of_part-read one ds a h s ls rest has stands = ap of_part (h s ls rest has stands)
 
 abbrev at : List (List ℕ) → ℕ → Stream
 at left place = record { left = left; place = place }
@@ -88,7 +84,7 @@ itself t = (slice_eq-Decides (λ x y. (eqb-true x y, eq-eqb x y)) t t (bytes_eq 
 
 text-read : (t : List ℕ) → Reads text_at (text t ∷ []) t
 unfolding text_at
-text-read t = and_done (λ s. of_part (value_at s)) (text t ∷ []) (text t) _ t (of_part-read value_at (text t ∷ []) (text t) (value-read (text t))) (λ s. refl)
+text-read t = and_done value_at (text t ∷ []) (text t) _ t (value-read (text t)) (λ s. refl)
 
 other-read : (t : List ℕ) → Reads (other_at t) (text t ∷ []) None
 unfolding other_at
@@ -101,7 +97,7 @@ said-read t kind = and_done (other_at t) (text t ∷ []) None _ tt (other-read t
 mark-read : Reads mark_at (text mark ∷ []) tt
 unfolding mark_at
 mark-read =
-    let as_mark : GroupFault → Fault = λ fault. record { line = fault.line; kind = not_a_part } in
+    let as_mark : Fault → Fault = λ fault. record { line = fault.line; kind = not_a_part } in
     and_done (λ s. with_fault as_mark (value_at s)) (text mark ∷ []) (text mark) _ tt (λ s ls rest has stands. ap (with_fault as_mark) (value-read (text mark) s ls rest has stands)) (λ s. refl)
 
 header-read : (columns query : List ℕ) → Reads (header_of columns query) (text mark ∷ text columns ∷ text query ∷ []) tt
@@ -121,13 +117,13 @@ checksum-read bytes =
 lines-read : (before n : ℕ) → before + n < 2 ^ 63 → Reads (lines_at before) (number n ∷ []) n
 unfolding lines_at
 lines-read before n few =
-    and_done (λ s. of_part (count_at s)) (number n ∷ []) n _ n (of_part-read count_at (number n ∷ []) n (count-read n (omega (arith, few))))
+    and_done count_at (number n ∷ []) n _ n (count-read n (omega (arith, few)))
     (λ s. if_true (nat_lt (before + n) (2 ^ 63)) too_many_lines s _ (lt-ltb (before + n) (2 ^ 63) few))
 
 group_count-read : (shape : ShapeForm) (n : ℕ) → n < 2 ^ 64 → can_have shape.columns n ≡ true → Reads (group_count_at shape) (number n ∷ []) n
 unfolding group_count_at
 group_count-read shape n small possible =
-    and_done (λ s. of_part (count_at s)) (number n ∷ []) n _ n (of_part-read count_at (number n ∷ []) n (count-read n small)) (λ s. if_true (can_have shape.columns n) out_of_range s _ possible)
+    and_done count_at (number n ∷ []) n _ n (count-read n small) (λ s. if_true (can_have shape.columns n) out_of_range s _ possible)
 
 -- ---- refused lines
 
@@ -136,8 +132,8 @@ refused_line-read : (fields : List Field) (lines last : ℕ) (line : ℕ × Line
 unfolding refused_line_at
 refused_line-read fields lines last line small above within named =
     let t : List ℕ = fault_text fields line.1 in
-    and_on (λ s. of_part (count_within lines s)) (number line.0 ∷ []) line.0 _ (text t ∷ []) line
-    (of_part-read (count_within lines) (number line.0 ∷ []) line.0 (within-read lines line.0 (omega (arith, small, within)) within))
+    and_on (count_within lines) (number line.0 ∷ []) line.0 _ (text t ∷ []) line
+    (within-read lines line.0 (omega (arith, small, within)) within)
     (λ s ls rest has stands.
     if_true (nat_lt last line.0) out_of_order s (λ u. text_at s >>= λ x. line_fault_in (fault_named fields x.0) x.1 >>= λ fault. Ok ((line.0, fault), x.1)) (lt-ltb last line.0 above)
     ∙ and_done text_at (text t ∷ []) t (λ x. line_fault_in (fault_named fields x.0) x.1 >>= λ fault. Ok ((line.0, fault), x.1)) line (text-read t)
@@ -159,8 +155,8 @@ all_refused-read : (fields : List Field) (lines : ℕ) (refused : List (ℕ × L
     → Reads (all_refused_at fields lines) (number (length refused) ∷ refused_values fields refused) refused
 unfolding all_refused_at
 all_refused-read fields lines refused small few h =
-    and_on (λ s. of_part (count_within lines s)) (number (length refused) ∷ []) (length refused) (λ n. refused_at fields lines n.0 0 n.1) (refused_values fields refused) refused
-    (of_part-read (count_within lines) (number (length refused) ∷ []) (length refused) (within-read lines (length refused) (omega (arith, small, few)) few))
+    and_on (count_within lines) (number (length refused) ∷ []) (length refused) (λ n. refused_at fields lines n.0 0 n.1) (refused_values fields refused) refused
+    (within-read lines (length refused) (omega (arith, small, few)) few)
     (refused-read fields lines 0 refused small h)
 
 -- ---- contents, and the whole part
@@ -180,8 +176,8 @@ module _ (fields : List Field) (q : TreeForm) where
       and_on (lines_at before) (number c.lines ∷ []) c.lines _ (refused_ds ++ groups_ds) c (lines-read before c.lines h.few)
       (and_on (all_refused_at fields c.lines) refused_ds c.refused _ groups_ds c (all_refused-read fields c.lines c.refused small h.refused_few h.refused)
       (and_on (group_count_at shape) (number (length c.groups) ∷ []) (length c.groups) _ (groups_values c.groups) c (group_count-read shape (length c.groups) h.groups_few h.possible)
-      (and_done (λ s. of_part (groups_at shape (length c.groups) None good s)) (groups_values c.groups) c.groups _ c
-      (of_part-read (groups_at shape (length c.groups) None good) (groups_values c.groups) c.groups (groups-read shape (record { last = None; left = good }) c.groups (omega (arith, small)) h.groups))
+      (and_done (groups_at shape (length c.groups) None good) (groups_values c.groups) c.groups _ c
+      (groups-read shape (record { last = None; left = good }) c.groups (omega (arith, small)) h.groups)
       (λ s. refl))))
 
   pub part-read : (before : ℕ) (c : ContentsForm) → AreContentsFor fields q before c → Reads (part_at fields q before) (values_with fields q c ++ checksum (text_of (values_with fields q c)) ∷ []) c

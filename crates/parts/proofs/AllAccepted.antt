@@ -8,14 +8,15 @@ use Rattle.semantics.specs.Lines.{lines}
 use Rattle.semantics.specs.Parts.{ContentsForm, checksum, contents_over, part_text, part_values, text_of, value_text}
 use Rattle.semantics.specs.Syntax.{TreeForm}
 use Rattle.semantics.specs.Values.{Datum}
+use Rattle.values.specs.Results.{◌>>=◌}
 use Rattle.lines.proofs.Clips.{lines-clip}
 use Rattle.lines.specs.Clip.{clip_lines, clipped_len}
-use Rattle.part_text.proofs.Spellings.{line_value-text}
-use Rattle.part_groups.proofs.Read.{texts-have}
-use Rattle.part_groups.specs.Known.{HaveValues, IsWritable}
-use Rattle.part_groups.specs.Reading.{Stream, behind}
+use Rattle.part_lines.proofs.Spellings.{line_value-text}
+use Rattle.part_lines.proofs.Read.{texts-have}
+use Rattle.part_lines.specs.Known.{HaveValues, IsWritable}
+use Rattle.part_lines.specs.Reading.{Stream, behind}
 use Rattle.parts.specs.Faults.{in_part}
-use Rattle.parts.specs.ReadingParts.{◌>>=◌, behind_part, part_at, parts_at, parts_from, with_fault}
+use Rattle.parts.specs.ReadingParts.{behind_part, part_at, parts_at, parts_from, with_fault}
 use Rattle.parts.proofs.Accepted.{AreContentsFor, part-read}
 use Rattle.parts.proofs.AllBack.{first-part, some-lines}
 

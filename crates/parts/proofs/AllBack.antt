@@ -9,11 +9,11 @@ use Rattle.lines.proofs.Clips.{lines-clip}
 use Rattle.lines.proofs.Fronts.{lines-whole_lines}
 use Rattle.lines.specs.Clip.{clip_lines, clipped_len}
 use Rattle.lines.specs.Pieces.{EndsInFeed}
-use Rattle.part_groups.specs.Known.{AreReadAs}
-use Rattle.part_groups.specs.Reading.{Stream, reading_of}
-use Rattle.part_text.proofs.Rows.{lines-text_of}
-use Rattle.part_text.proofs.Same.{line_value-same}
-use Rattle.part_text.specs.Reading.{line_value}
+use Rattle.part_lines.specs.Known.{AreReadAs}
+use Rattle.part_lines.specs.Reading.{Stream, reading_of}
+use Rattle.part_lines.proofs.Rows.{lines-text_of}
+use Rattle.part_lines.proofs.Same.{line_value-same}
+use Rattle.part_lines.specs.LineValues.{line_value}
 use Rattle.semantics.specs.Parts.{text_of, value_text, ContentsForm, contents_over, checksum, part_text, part_values}
 use Rattle.semantics.specs.Columns.{Field}
 use Rattle.semantics.specs.Lines.{line_feed, lines}
@@ -22,10 +22,12 @@ use Rattle.semantics.specs.Conditions.{kept_records}
 use Rattle.semantics.specs.Syntax.{TreeForm}
 use Rattle.semantics.specs.Values.{Datum}
 use Rattle.values.specs.Schema.{IsSchema}
-use Rattle.parts.specs.Faults.{Fault, PartedFault, in_part}
+use Rattle.values.specs.Results.{◌>>=◌}
+use Rattle.part_lines.specs.Faults.{Fault}
+use Rattle.parts.specs.Faults.{PartedFault, in_part}
 use Rattle.hex.specs.Hex.{encode_lower}
 use Rattle.sha2.specs.Sha256.{sha256}
-use Rattle.parts.specs.ReadingParts.{◌>>=◌, behind_part, part_at, parts_at, parts_from, with_fault}
+use Rattle.parts.specs.ReadingParts.{behind_part, part_at, parts_at, parts_from, with_fault}
 use Rattle.parts.proofs.Onward.{at_end, no-lines, one, part-below}
 use Rattle.parts.proofs.Back.{IsRead, part-again}
 use Rattle.parts.proofs.FaultNames.{names-alone}

@@ -2,7 +2,7 @@
 use Rattle.std.proofs.Common.{◌≡◌, ◌≢◌, ◌+◌, ℕ, List, [], ◌∷◌, length, map, Option, Some, None, Result, Ok, Err, refl, sym, ap, subst, ◌∙◌, arith}
 use Rattle.std.specs.Prelude.{IfOk, IfSome, flat_map, is_some, option_map, unwrap_or}
 use Rattle.lines.specs.Clip.{clip_lines}
-use Rattle.part_groups.specs.Reading.{Stream}
+use Rattle.part_lines.specs.Reading.{Stream}
 use Rattle.query_plan.specs.Planned.{PlannedQuery}
 use Rattle.semantics.specs.Columns.{Field}
 use Rattle.semantics.specs.Lines.{lines}

@@ -2,24 +2,23 @@
 use Rattle.std.proofs.Common.{◌≡◌, ◌+◌, ◌-◌, ℕ, suc, Bool, true, false, List, [], ◌∷◌, ◌++◌, length, take, drop, Option, Some, None, Result, Ok, Err, refl, sym, ap, subst, ◌∙◌, append_assoc}
 use Rattle.std.proofs.lemmas.List.Concat.{flat_map-cons}
 use Rattle.std.specs.Prelude.{◌^◌, IfOk, IfSome, nat_lt}
-use Rattle.part_groups.proofs.Again.{count-again, groups_at-again, value-again, within-again}
-use Rattle.part_groups.proofs.ReadAs as groups
-use Rattle.part_groups.specs.Groups.{HaveShape, ShapeForm}
+use Rattle.part_lines.proofs.Again.{count-again, groups_at-again, value-again, within-again}
+use Rattle.part_lines.specs.Groups.{HaveShape, ShapeForm}
 use Rattle.semantics.specs.Parts.{groups_values, ContentsForm, text_of, columns_text, mark, number, refused_line_values, refused_values, values_with}
-use Rattle.part_groups.specs.Known.{AreReadAs}
-use Rattle.part_groups.specs.Reading.{Stream, count_at, count_within, groups_at, value_at}
-use Rattle.part_groups.specs.declared.fault.GroupFault.{GroupFault}
+use Rattle.part_lines.specs.Known.{AreReadAs}
+use Rattle.part_lines.specs.Reading.{Stream, count_at, count_within, groups_at, passed, value_at}
 use Rattle.semantics.specs.Canonical.{canonical_text}
 use Rattle.semantics.specs.Columns.{Field}
 use Rattle.semantics.specs.Syntax.{TreeForm}
 use Rattle.semantics.specs.Values.{Datum, text}
 use Rattle.semantics.specs.declared.line_fault.LineFault.{LineFault}
 use Rattle.semantics.specs.Texts.{fault_text}
-use Rattle.parts.specs.Faults.{Fault, FaultKind, not_a_part, other_columns, other_query, out_of_order, out_of_range, too_many_lines, wrong_checksum}
+use Rattle.values.specs.Results.{◌>>=◌}
+use Rattle.part_lines.specs.Faults.{Fault, FaultKind, not_a_part, other_columns, other_query, out_of_order, out_of_range, too_many_lines, wrong_checksum}
 use Rattle.hex.specs.Hex.{encode_lower}
 use Rattle.sha2.specs.Sha256.{sha256}
 use Rattle.std.specs.Str.{bytes_eq}
-use Rattle.parts.specs.ReadingParts.{◌>>=◌, all_refused_at, checksum_at, contents_at, fault_named, can_have, group_count_at, header_at, header_of, kind_of_mark, line_fault_in, lines_at, mark_at, mark_in, none_other, of_part, other_at, other_text, part_at, passed, refused_at, refused_line_at, said_at, shape_under, text_at, text_in, with_fault}
+use Rattle.parts.specs.ReadingParts.{all_refused_at, checksum_at, contents_at, fault_named, can_have, group_count_at, header_at, header_of, kind_of_mark, line_fault_in, lines_at, mark_at, mark_in, none_other, other_at, other_text, part_at, refused_at, refused_line_at, said_at, shape_under, text_at, text_in, with_fault}
 
 -- ---- one reading and then another one
 
@@ -31,14 +30,6 @@ IsRead a rest read = (read.0 ≡ a) × (read.1.left ≡ rest)
 -- them are left
 abbrev pub ReadsBack : {A : Type 0} → (Stream → Result (A × Stream) Fault) → List Datum → A → Type 0
 ReadsBack one ds a = (s : Stream) (ls rest : List (List ℕ)) → AreReadAs ls ds → s.left ≡ ls ++ rest → IfOk (one s) (IsRead a rest)
-
--- so it is of groups, read as part of a part
-of-part : {A : Type 0} (one : Stream → Result (A × Stream) GroupFault) (ds : List Datum) (a : A) → groups.ReadsBack one ds a → ReadsBack (λ s. of_part (one s)) ds a
-of-part {A} one ds a h s ls rest reads stands = kept (one s) (h s ls rest reads stands)
-  where
-    kept : (read : Result (A × Stream) GroupFault) → IfOk read (IsRead a rest) → IfOk (of_part read) (IsRead a rest)
-    kept (Ok x) k = k
-    kept (Err fault) k = tt
 
 pub then-known : {A B : Type 0} (read : Result A Fault) (f : A → Result B Fault) (P : A → Type 0) (Q : B → Type 0) → IfOk read P → ((a : A) → P a → IfOk (f a) Q) → IfOk (read >>= f) Q
 then-known (Ok a) f P Q h k = k a h
@@ -85,7 +76,7 @@ then-passed false kind s f Q h = tt
 
 text-again : (t : List ℕ) → ReadsBack text_at (text t ∷ []) t
 unfolding text_at
-text-again t = no-more (λ s. of_part (value_at s)) (text t ∷ []) (text t) (λ d. text_in d.0 d.1 >>= λ x. Ok (x, d.1)) t (of-part value_at (text t ∷ []) (text t) (value-again (text t))) (λ s. (refl, refl))
+text-again t = no-more value_at (text t ∷ []) (text t) (λ d. text_in d.0 d.1 >>= λ x. Ok (x, d.1)) t (value-again (text t)) (λ s. (refl, refl))
 
 other-again : (wanted t : List ℕ) → ReadsBack (other_at wanted) (text t ∷ []) (other_text wanted t)
 unfolding other_at
@@ -108,7 +99,7 @@ seen view (Err fault) P h = tt
 mark-again : (t : List ℕ) → ReadsBack mark_at (text t ∷ []) tt
 unfolding mark_at
 mark-again t =
-    let as_mark : GroupFault → Fault = λ fault. record { line = fault.line; kind = not_a_part } in
+    let as_mark : Fault → Fault = λ fault. record { line = fault.line; kind = not_a_part } in
     no-more (λ s. with_fault as_mark (value_at s)) (text t ∷ []) (text t) (λ d. mark_in d.0 d.1 >>= λ u. Ok (tt, d.1)) tt
     (λ s ls rest reads stands. seen as_mark (value_at s) (IsRead (text t) rest) (value-again (text t) s ls rest reads stands))
     (λ s. then-passed (bytes_eq t mark) (kind_of_mark t) s (λ u. Ok (tt, s)) (λ (r : Unit {0} × Stream). (r.0 ≡ tt) × (r.1 ≡ s)) (refl, refl))
@@ -130,13 +121,13 @@ checksum-again bytes t =
 lines-again : (before n : ℕ) → ReadsBack (lines_at before) (number n ∷ []) n
 unfolding lines_at
 lines-again before n =
-    no-more (λ s. of_part (count_at s)) (number n ∷ []) n (λ x. passed (nat_lt (before + x.0) (2 ^ 63)) too_many_lines x.1 >>= λ u. Ok x) n (of-part count_at (number n ∷ []) n (count-again n))
+    no-more count_at (number n ∷ []) n (λ x. passed (nat_lt (before + x.0) (2 ^ 63)) too_many_lines x.1 >>= λ u. Ok x) n (count-again n)
     (λ s. then-passed (nat_lt (before + n) (2 ^ 63)) too_many_lines s (λ u. Ok (n, s)) (λ (r : ℕ × Stream). (r.0 ≡ n) × (r.1 ≡ s)) (refl, refl))
 
 group_count-again : (shape : ShapeForm) (n : ℕ) → ReadsBack (group_count_at shape) (number n ∷ []) n
 unfolding group_count_at
 group_count-again shape n =
-    no-more (λ s. of_part (count_at s)) (number n ∷ []) n (λ x. passed (can_have shape.columns x.0) out_of_range x.1 >>= λ u. Ok x) n (of-part count_at (number n ∷ []) n (count-again n))
+    no-more count_at (number n ∷ []) n (λ x. passed (can_have shape.columns x.0) out_of_range x.1 >>= λ u. Ok x) n (count-again n)
     (λ s. then-passed (can_have shape.columns n) out_of_range s (λ u. Ok (n, s)) (λ (r : ℕ × Stream). (r.0 ≡ n) × (r.1 ≡ s)) (refl, refl))
 
 -- ---- refused lines
@@ -153,9 +144,9 @@ named (Some found) fault n s h = (ap (λ (f : LineFault). (n, f)) h, refl)
 refused_line-again : (fields : List Field) (lines last : ℕ) (line : ℕ × LineFault) → NamesAlone fields → ReadsBack (refused_line_at fields lines last) (refused_line_values fields line) line
 unfolding refused_line_at
 refused_line-again fields lines last line alone =
-    and-more (λ s. of_part (count_within lines s)) (number line.0 ∷ []) line.0
+    and-more (count_within lines) (number line.0 ∷ []) line.0
     (λ n. passed (nat_lt last n.0) out_of_order n.1 >>= λ u. text_at n.1 >>= λ t. line_fault_in (fault_named fields t.0) t.1 >>= λ f. Ok ((n.0, f), t.1))
-    (text (fault_text fields line.1) ∷ []) line (of-part (count_within lines) (number line.0 ∷ []) line.0 (within-again lines line.0))
+    (text (fault_text fields line.1) ∷ []) line (within-again lines line.0)
     (λ s ls rest reads stands.
     then-passed (nat_lt last line.0) out_of_order s (λ u. text_at s >>= λ t. line_fault_in (fault_named fields t.0) t.1 >>= λ f. Ok ((line.0, f), t.1)) (IsRead line rest)
     (no-more text_at (text (fault_text fields line.1) ∷ []) (fault_text fields line.1) (λ t. line_fault_in (fault_named fields t.0) t.1 >>= λ f. Ok ((line.0, f), t.1)) line (text-again (fault_text fields line.1))
@@ -172,15 +163,15 @@ refused-again fields lines last (line ∷ refused) alone =
 all_refused-again : (fields : List Field) (lines : ℕ) (refused : List (ℕ × LineFault)) → NamesAlone fields → ReadsBack (all_refused_at fields lines) (number (length refused) ∷ refused_values fields refused) refused
 unfolding all_refused_at
 all_refused-again fields lines refused alone =
-    and-more (λ s. of_part (count_within lines s)) (number (length refused) ∷ []) (length refused) (λ n. refused_at fields lines n.0 0 n.1) (refused_values fields refused) refused
-    (of-part (count_within lines) (number (length refused) ∷ []) (length refused) (within-again lines (length refused))) (refused-again fields lines 0 refused alone)
+    and-more (count_within lines) (number (length refused) ∷ []) (length refused) (λ n. refused_at fields lines n.0 0 n.1) (refused_values fields refused) refused
+    (within-again lines (length refused)) (refused-again fields lines 0 refused alone)
 
 -- ---- contents
 
 module _ (fields : List Field) (q : TreeForm) where
   -- what is read behind the number of the groups, behind the refused lines, and behind the number of the lines
   abbrev behind-count : ℕ → List (ℕ × LineFault) → ℕ × Stream → Result (ContentsForm × Stream) Fault
-  behind-count n refused count = of_part (groups_at (shape_under fields q) count.0 None (n - length refused) count.1) >>= λ groups. Ok (record { lines = n; refused = refused; groups = groups.0 }, groups.1)
+  behind-count n refused count = groups_at (shape_under fields q) count.0 None (n - length refused) count.1 >>= λ groups. Ok (record { lines = n; refused = refused; groups = groups.0 }, groups.1)
 
   abbrev behind-refused : ℕ → List (ℕ × LineFault) × Stream → Result (ContentsForm × Stream) Fault
   behind-refused n refused = group_count_at (shape_under fields q) refused.1 >>= behind-count n refused.0
@@ -191,8 +182,8 @@ module _ (fields : List Field) (q : TreeForm) where
   groups-back : (c : ContentsForm) → HaveShape (shape_under fields q) c.groups → ReadsBack (λ s. behind-count c.lines c.refused (length c.groups, s)) (groups_values c.groups) c
   groups-back c shaped =
       let good : ℕ = c.lines - length c.refused in
-      no-more (λ s. of_part (groups_at (shape_under fields q) (length c.groups) None good s)) (groups_values c.groups) c.groups (λ groups. Ok (record { lines = c.lines; refused = c.refused; groups = groups.0 }, groups.1)) c
-      (of-part (groups_at (shape_under fields q) (length c.groups) None good) (groups_values c.groups) c.groups (groups_at-again (shape_under fields q) c.groups None good shaped)) (λ s. (refl, refl))
+      no-more (groups_at (shape_under fields q) (length c.groups) None good) (groups_values c.groups) c.groups (λ groups. Ok (record { lines = c.lines; refused = c.refused; groups = groups.0 }, groups.1)) c
+      (groups_at-again (shape_under fields q) c.groups None good shaped) (λ s. (refl, refl))
 
   contents-again : (before : ℕ) (c : ContentsForm) → NamesAlone fields → HaveShape (shape_under fields q) c.groups
       → ReadsBack (contents_at fields q before) (number c.lines ∷ number (length c.refused) ∷ refused_values fields c.refused ++ number (length c.groups) ∷ groups_values c.groups) c

@@ -27,8 +27,8 @@ use Rattle.semantics.specs.declared.kind.Kind.{Kind}
 use Rattle.semantics.specs.declared.kind.Kind.TheVariants as kind
 use Rattle.semantics.specs.declared.line_fault.LineFault.{LineFault}
 use Rattle.semantics.specs.declared.line_fault.LineFault.TheVariants.{TooLong, NoJson, NoObject, BadValue}
-use Rattle.part_groups.specs.Known.{IsWritable}
-use Rattle.part_text.specs.Texts.{fits_128_bits}
+use Rattle.part_lines.specs.Known.{IsWritable}
+use Rattle.part_lines.specs.Texts.{fits_128_bits}
 use Rattle.values.specs.Schema.{IsSchema}
 use Rattle.parts.proofs.StringContent.{escape_byte-six, length-escape-append}
 

@@ -20,8 +20,8 @@ use Rattle.semantics.specs.declared.function.ColumnFunction.TheVariants as funct
 use Rattle.semantics.specs.declared.kind.Kind.{Kind}
 use Rattle.semantics.specs.declared.kind.Kind.TheVariants as kind
 use Rattle.tables.proofs.Bags.{all-append, all-distinct, all-filter, find-such}
-use Rattle.part_text.specs.Texts.{fits_128_bits}
-use Rattle.part_groups.specs.Known.{IsSumOf, IsWritable}
+use Rattle.part_lines.specs.Texts.{fits_128_bits}
+use Rattle.part_lines.specs.Known.{IsSumOf, IsWritable}
 use Rattle.parts.proofs.FrontValues.{whole-writable}
 use Rattle.parts.proofs.RecordTexts.{IsShort, TextIs}
 use Rattle.parts.proofs.Lists.{all-ordered, filter-le}

@@ -1,8 +1,8 @@
 -- A group put to a result that can hold it.
 use Rattle.std.proofs.Common.{◌+◌, ℕ, None, Some, Result, Ok, Err, arith}
 use Rattle.std.specs.Prelude.{IfOk}
-use Rattle.group_states.specs.States.{entry_of}
-use Rattle.group_states.specs.declared.entry.GroupEntry.{GroupEntry}
+use Rattle.values.specs.GroupStates.{entry_of}
+use Rattle.values.specs.declared.group_entry.GroupEntry.{GroupEntry}
 use Rattle.query_plan.specs.Planned.{PlannedQuery}
 use Rattle.tables.specs.Contents.{DiffersInGroups, HasMembersWithin, IsTypedEntryUnder}
 use Rattle.tables.specs.Sound.{IsSoundUnder}

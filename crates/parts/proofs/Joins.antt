@@ -2,12 +2,13 @@
 use Rattle.std.proofs.Common.{◌≡◌, ◌≢◌, ◌+◌, ℕ, List, [], ◌∷◌, ◌++◌, map, Result, Ok, Err, refl, sym, ap, subst, ◌∙◌, append_assoc, append-nil}
 use Rattle.std.proofs.lemmas.Grind.{flat_map-append}
 use Rattle.std.proofs.lemmas.List.Concat.{flat_map-cons}
-use Rattle.part_groups.specs.Reading.{Stream}
+use Rattle.part_lines.specs.Reading.{Stream}
 use Rattle.query_plan.specs.Planned.{PlannedQuery}
 use Rattle.tables.proofs.Following.{one-piece}
 use Rattle.tables.proofs.OnePiece.{behind-stands, own-input}
 use Rattle.tables.specs.Contents.{HasContents}
 use Rattle.semantics.specs.Parts.{ContentsForm, contents_over, closed, concatenated}
+use Rattle.values.specs.Results.{◌>>=◌}
 use Rattle.tables.specs.Partials.{HasOwnIndexes, StandsForInput, concatenation, whole_piece}
 use Rattle.tables.specs.Sound.{IsSoundUnder}
 use Rattle.tables.specs.States.{PartialState}
@@ -19,7 +20,7 @@ use Rattle.parts.specs.Inside.Gathering.{IsOfOnePiece, contents_in}
 use Rattle.parts.specs.Inside.Joining.{ArePartsFrom, JoinsBehind}
 use Rattle.parts.specs.Joining.{StandsForAll}
 use Rattle.parts.specs.Inside.Reader.{IsKnown, ReaderState, stream_of}
-use Rattle.parts.specs.ReadingParts.{◌>>=◌, behind_part, part_at, with_fault}
+use Rattle.parts.specs.ReadingParts.{behind_part, part_at, with_fault}
 use Rattle.parts.proofs.Closing.{closed-contents, concatenated-whole}
 use Rattle.parts.proofs.Onward.{at_end, at_fault, at_part}
 

@@ -1,16 +1,10 @@
--- What is read of groups, as part of a part.
-use Rattle.std.proofs.Common.{◌≡◌, ◌++◌, ◌∷◌, [], ℕ, List, length, Result, Ok, Err, refl, sym, ap, subst, ◌∙◌, append_assoc, append-nil}
+-- What a hasher was given of groups, and results that differ in their groups alone.
+use Rattle.std.proofs.Common.{◌≡◌, ◌++◌, ◌∷◌, [], ℕ, List, length, Result, Ok, Err, sym, ap, subst, ◌∙◌, append_assoc, append-nil}
 use Rattle.std.proofs.lemmas.Grind.{flat_map-append}
 use Rattle.std.proofs.lemmas.List.Concat.{flat_map-cons}
 use Rattle.std.specs.Prelude.{IfOk}
 use Rattle.semantics.specs.GroupStates.{EntryForm}
 use Rattle.semantics.specs.Parts.{group_values, groups_values, line_of, text_of, columns_text, front_of, front_values, values_with}
-use Rattle.part_groups.specs.Reading as groups
-use Rattle.part_groups.specs.declared.fault.GroupFault.{GroupFault}
-use Rattle.part_groups.specs.declared.fault.GroupFaultKind.{GroupFaultKind}
-use Rattle.part_groups.specs.declared.fault.GroupFaultKind.TheVariants as group_fault_kind
-use Rattle.part_groups.specs.declared.fault.GroupRefusal.{GroupRefusal}
-use Rattle.part_groups.specs.declared.fault.GroupRefusal.TheVariants as refusal
 use Rattle.parts.specs.Inside.Hashing.{HoldsText}
 use Rattle.parts.specs.declared.checksum.TextHasher.{TextHasher}
 use Rattle.semantics.specs.Canonical.{canonical_text}
@@ -19,24 +13,8 @@ use Rattle.semantics.specs.Syntax.{TreeForm}
 use Rattle.semantics.specs.declared.line_fault.LineFault.{LineFault}
 use Rattle.tables.specs.Contents.{DiffersInGroups, HasRefusals}
 use Rattle.tables.specs.States.{PartialState}
-use Rattle.parts.specs.Faults.{FaultKind, group_kind, kind_of}
-use Rattle.parts.specs.Inside.Faults.{Refuses, kind_of_groups, refusal_of_groups}
 use Rattle.parts.specs.Inside.Gathering.{contents_of, first_refused, groups_of, refused_in}
 use Rattle.parts.specs.declared.gathering.Gathering.{Gathering}
-use Rattle.parts.specs.ReadingParts.{of_part}
-
-kind-kept : (k : GroupFaultKind) → group_kind k ≡ kind_of (kind_of_groups k)
-kind-kept group_fault_kind.NotAValue = refl
-kind-kept group_fault_kind.UnexpectedValue = refl
-kind-kept group_fault_kind.OutOfOrder = refl
-kind-kept group_fault_kind.OutOfRange = refl
-kind-kept group_fault_kind.EndsTooEarly = refl
-
--- a refusal of what is read as groups refuses it as part of a part
-pub refused-as_part : {Y : Type 0} (e : GroupRefusal) (read : Result Y GroupFault) → groups.Refuses e read → Refuses (refusal_of_groups e) (of_part read)
-refused-as_part (refusal.Fault f) read h = ap of_part h ∙ ap (λ (k : FaultKind). Err (record { line = f.line; kind = k })) (kind-kept f.kind)
-refused-as_part refusal.Reading read h = tt
-refused-as_part refusal.OutOfMemory read h = tt
 
 -- ---- what a hasher was given
 

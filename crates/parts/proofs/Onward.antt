@@ -4,18 +4,19 @@ use Rattle.std.proofs.Common.{◌≡◌, ◌≢◌, ◌≤◌, ◌+◌, ◌-◌,
 use Rattle.std.specs.Prelude.{⊤, IfOk, nat_lt}
 use Rattle.std.specs.Str.{bytes_eq}
 use Rattle.hex.specs.Hex.{encode_lower}
-use Rattle.part_groups.specs.Groups.{ShapeForm}
-use Rattle.part_groups.specs.Reading.{Stream, count_at, count_within, groups_at, value_at}
-use Rattle.part_groups.specs.declared.fault.GroupFault.{GroupFault}
+use Rattle.part_lines.specs.Groups.{ShapeForm}
+use Rattle.part_lines.specs.Reading.{Stream, count_at, count_within, groups_at, passed, value_at}
 use Rattle.semantics.specs.Parts.{text_of, ContentsForm, columns_text, values_with}
 use Rattle.semantics.specs.Canonical.{canonical_text}
 use Rattle.semantics.specs.Columns.{Field}
 use Rattle.semantics.specs.Syntax.{TreeForm}
 use Rattle.semantics.specs.declared.line_fault.LineFault.{LineFault}
+use Rattle.values.specs.Results.{◌>>=◌}
 use Rattle.sha2.specs.Sha256.{sha256}
-use Rattle.parts.specs.Faults.{Fault, FaultKind, PartedFault, group_fault, in_part, not_a_part, other_columns, other_query, out_of_order, out_of_range, too_many_lines, wrong_checksum}
+use Rattle.part_lines.specs.Faults.{Fault, FaultKind, not_a_part, other_columns, other_query, out_of_order, out_of_range, too_many_lines, wrong_checksum}
+use Rattle.parts.specs.Faults.{PartedFault, in_part}
 use Rattle.parts.specs.Inside.Joining.{ArePartsFrom}
-use Rattle.parts.specs.ReadingParts.{◌>>=◌, all_refused_at, behind_part, can_have, checksum_at, contents_at, fault_named, group_count_at, header_at, header_of, line_fault_in, lines_at, mark_at, mark_in, none_other, of_part, other_at, other_text, part_at, parts_from, passed, refused_at, refused_line_at, said_at, shape_under, text_at, text_in, with_fault}
+use Rattle.parts.specs.ReadingParts.{all_refused_at, behind_part, can_have, checksum_at, contents_at, fault_named, group_count_at, header_at, header_of, line_fault_in, lines_at, mark_at, mark_in, none_other, other_at, other_text, part_at, parts_from, refused_at, refused_line_at, said_at, shape_under, text_at, text_in, with_fault}
 use Rattle.parts.proofs.Back.{seen, then-known}
 use Rattle.parts.proofs.Forward.{count-forward, groups-forward, value-fewer, value-forward, within-forward}
 
@@ -49,20 +50,11 @@ behind {A} one s lines h l = less (one s) (h s)
 next : {A B : Type 0} (lines : ℕ) (read : Result (A × Stream) Fault) (f : A × Stream → Result (B × Stream) Fault) → IfOk read (IsWithin lines) → ((x : A × Stream) → length x.1.left ≤ lines → IfOk (f x) (IsWithin lines)) → IfOk (read >>= f) (IsWithin lines)
 next {A} {B} lines read f h k = then-known read f (IsWithin lines) (IsWithin lines) h k
 
-value-on : GoesOn (λ s. of_part (value_at s))
-value-on s = seen group_fault (value_at s) (IsWithin (length s.left)) (value-forward s)
-
-count-on : GoesOn (λ s. of_part (count_at s))
-count-on s = seen group_fault (count_at s) (IsWithin (length s.left)) (count-forward s)
-
-within-on : (most : ℕ) → GoesOn (λ s. of_part (count_within most s))
-within-on most s = seen group_fault (count_within most s) (IsWithin (length s.left)) (within-forward most s)
-
 -- ---- the header
 
 text-on : GoesOn text_at
 unfolding text_at
-text-on s = next (length s.left) (of_part (value_at s)) (λ d. text_in d.0 d.1 >>= λ t. Ok (t, d.1)) (value-on s) (λ d l. apart (text_in d.0 d.1) (λ t. Ok (t, d.1)) (IsWithin (length s.left)) (λ t. l))
+text-on s = next (length s.left) (value_at s) (λ d. text_in d.0 d.1 >>= λ t. Ok (t, d.1)) (value-forward s) (λ d l. apart (text_in d.0 d.1) (λ t. Ok (t, d.1)) (IsWithin (length s.left)) (λ t. l))
 
 other-on : (wanted : List ℕ) → GoesOn (other_at wanted)
 unfolding other_at
@@ -76,7 +68,7 @@ said-on wanted kind s =
 mark-below : (s : Stream) → IfOk (mark_at s) (IsBelow (length s.left))
 unfolding mark_at
 mark-below s =
-    let as_mark : GroupFault → Fault = λ fault. record { line = fault.line; kind = not_a_part } in
+    let as_mark : Fault → Fault = λ fault. record { line = fault.line; kind = not_a_part } in
     then-known (with_fault as_mark (value_at s)) (λ d. mark_in d.0 d.1 >>= λ u. Ok (tt, d.1)) (IsBelow (length s.left)) (IsBelow (length s.left)) (seen as_mark (value_at s) (IsBelow (length s.left)) (value-fewer s.left s.place))
     (λ d l. apart (mark_in d.0 d.1) (λ u. Ok (tt, d.1)) (IsBelow (length s.left)) (λ u. l))
 
@@ -104,13 +96,13 @@ header-below columns query s =
 lines-on : (before : ℕ) → GoesOn (lines_at before)
 unfolding lines_at
 lines-on before s =
-    next (length s.left) (of_part (count_at s)) (λ n. passed (nat_lt (before + n.0) (2 ^ 63)) too_many_lines n.1 >>= λ u. Ok n) (count-on s)
+    next (length s.left) (count_at s) (λ n. passed (nat_lt (before + n.0) (2 ^ 63)) too_many_lines n.1 >>= λ u. Ok n) (count-forward s)
     (λ n l. apart (passed (nat_lt (before + n.0) (2 ^ 63)) too_many_lines n.1) (λ u. Ok n) (IsWithin (length s.left)) (λ u. l))
 
 group_count-on : (shape : ShapeForm) → GoesOn (group_count_at shape)
 unfolding group_count_at
 group_count-on shape s =
-    next (length s.left) (of_part (count_at s)) (λ n. passed (can_have shape.columns n.0) out_of_range n.1 >>= λ u. Ok n) (count-on s)
+    next (length s.left) (count_at s) (λ n. passed (can_have shape.columns n.0) out_of_range n.1 >>= λ u. Ok n) (count-forward s)
     (λ n l. apart (passed (can_have shape.columns n.0) out_of_range n.1) (λ u. Ok n) (IsWithin (length s.left)) (λ u. l))
 
 -- what is read behind the number of a refused line, and behind its text
@@ -129,7 +121,7 @@ number-behind fields last n lines l =
 
 refused_line-on : (fields : List Field) (lines last : ℕ) → GoesOn (refused_line_at fields lines last)
 unfolding refused_line_at
-refused_line-on fields lines last s = next (length s.left) (of_part (count_within lines s)) (behind-number fields last) (within-on lines s) (λ n l. number-behind fields last n (length s.left) l)
+refused_line-on fields lines last s = next (length s.left) (count_within lines s) (behind-number fields last) (within-forward lines s) (λ n l. number-behind fields last n (length s.left) l)
 
 refused-on : (fields : List Field) (lines n last : ℕ) → GoesOn (refused_at fields lines n last)
 unfolding refused_at
@@ -142,10 +134,7 @@ refused-on fields lines (suc n) last s =
 all_refused-on : (fields : List Field) (lines : ℕ) → GoesOn (all_refused_at fields lines)
 unfolding all_refused_at
 all_refused-on fields lines s =
-    next (length s.left) (of_part (count_within lines s)) (λ n. refused_at fields lines n.0 0 n.1) (within-on lines s) (λ n l. behind (refused_at fields lines n.0 0) n.1 (length s.left) (refused-on fields lines n.0 0) l)
-
-groups-on : (shape : ShapeForm) (count left : ℕ) → GoesOn (λ s. of_part (groups_at shape count None left s))
-groups-on shape count left s = seen group_fault (groups_at shape count None left s) (IsWithin (length s.left)) (groups-forward shape count None left s)
+    next (length s.left) (count_within lines s) (λ n. refused_at fields lines n.0 0 n.1) (within-forward lines s) (λ n l. behind (refused_at fields lines n.0 0) n.1 (length s.left) (refused-on fields lines n.0 0) l)
 
 pub no-lines : (left : List (List ℕ)) → length left ≤ 0 → left ≡ []
 no-lines [] l = refl
@@ -157,15 +146,15 @@ module _ (fields : List Field) (q : TreeForm) where
 
   -- what is read behind the number of the groups, and behind the refused lines
   abbrev behind-count : ℕ → List (ℕ × LineFault) → ℕ × Stream → Result (ContentsForm × Stream) Fault
-  behind-count n refused count = of_part (groups_at shape count.0 None (n - length refused) count.1) >>= λ groups. Ok (record { lines = n; refused = refused; groups = groups.0 }, groups.1)
+  behind-count n refused count = groups_at shape count.0 None (n - length refused) count.1 >>= λ groups. Ok (record { lines = n; refused = refused; groups = groups.0 }, groups.1)
 
   abbrev behind-refused : ℕ → List (ℕ × LineFault) × Stream → Result (ContentsForm × Stream) Fault
   behind-refused n refused = group_count_at shape refused.1 >>= behind-count n refused.0
 
   count-behind : (n : ℕ) (refused : List (ℕ × LineFault)) (count : ℕ × Stream) (lines : ℕ) → length count.1.left ≤ lines → IfOk (behind-count n refused count) (IsWithin lines)
   count-behind n refused count lines l =
-      next lines (of_part (groups_at shape count.0 None (n - length refused) count.1)) (λ groups. Ok (record { lines = n; refused = refused; groups = groups.0 }, groups.1))
-      (behind (λ s. of_part (groups_at shape count.0 None (n - length refused) s)) count.1 lines (groups-on shape count.0 (n - length refused)) l) (λ groups m. m)
+      next lines (groups_at shape count.0 None (n - length refused) count.1) (λ groups. Ok (record { lines = n; refused = refused; groups = groups.0 }, groups.1))
+      (behind (groups_at shape count.0 None (n - length refused)) count.1 lines (groups-forward shape count.0 None (n - length refused)) l) (λ groups m. m)
 
   refused-behind : (n : ℕ) (refused : List (ℕ × LineFault) × Stream) (lines : ℕ) → length refused.1.left ≤ lines → IfOk (behind-refused n refused) (IsWithin lines)
   refused-behind n refused lines l =

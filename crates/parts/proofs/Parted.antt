@@ -4,8 +4,8 @@ use Rattle.std.proofs.lemmas.Grind.{flat_map-append}
 use Rattle.std.proofs.lemmas.List.{length-map}
 use Rattle.std.specs.Global.{Vec}
 use Rattle.std.specs.Prelude.{IfOk}
-use Rattle.group_states.specs.States.{entries_of, entry_of}
-use Rattle.group_states.specs.declared.entry.GroupEntry.{GroupEntry}
+use Rattle.values.specs.GroupStates.{entries_of, entry_of}
+use Rattle.values.specs.declared.group_entry.GroupEntry.{GroupEntry}
 use Rattle.semantics.specs.Parts.{groups_values, line_of, text_of, ContentsForm, contents_over, columns_text, front_of, front_values, part_text, values_with, with_checksum}
 use Rattle.semantics.specs.Canonical.{canonical_text}
 use Rattle.semantics.specs.Columns.{Field}

@@ -12,11 +12,11 @@ use Rattle.semantics.specs.declared.aggregate.Aggregate.TheVariants as aggregate
 use Rattle.semantics.specs.declared.kind.Kind.TheVariants as kind
 use Rattle.semantics.specs.GroupStates.{summed}
 use Rattle.semantics.specs.declared.line_fault.LineFault.TheVariants.{NoJson}
-use Rattle.part_groups.specs.Reading.{count_at, count_within, each_at, group_at, in_turn, members_at, next_key_at, number_at, summed_at, value_at}
+use Rattle.part_lines.specs.Reading.{count_at, count_within, each_at, group_at, in_turn, members_at, next_key_at, number_at, summed_at, value_at}
 use Rattle.hex.specs.Hex.{encode_with}
 use Rattle.sha2.specs.Sha256.{sha256, digest_bytes, hash_after, compress, rounds, schedule, first_words}
 use Rattle.parts.specs.Shown.{all_visible, first_of, shortened}
-use Rattle.parts.specs.Faults.{ends_too_early, no_part, not_a_part, other_columns, other_version, out_of_range, wrong_checksum}
+use Rattle.part_lines.specs.Faults.{ends_too_early, no_part, not_a_part, other_columns, other_version, out_of_range, wrong_checksum}
 use Rattle.parts.specs.ReadingParts.{checksum_at, contents_at, header_of, mark_at, other_at, part_at, parts_at, parts_from, said_at, text_at, lines_at, refused_line_at, refused_at, all_refused_at, group_count_at}
 
 -- cents:int

@@ -1,50 +1,35 @@
 -- The groups of records are groups that the reader of parts takes.
-use Rattle.std.proofs.Common.{◌≡◌, ◌+◌, ◌<◌, ◌≤◌, ℕ, Bool, true, false, cond, List, [], ◌∷◌, length, map, None, refl, sym, ap, subst, ◌∙◌, arith}
+use Rattle.std.proofs.Common.{◌≡◌, ◌+◌, ◌<◌, ◌≤◌, ℕ, Bool, true, false, cond, List, [], ◌∷◌, length, map, None, refl, sym, ap, subst, ◌∙◌, sum_by, arith}
+use Rattle.std.proofs.lemmas.List.Sums.{sum_by-cons}
 use Rattle.std.proofs.lemmas.Bool.{lt-ltb}
 use Rattle.std.proofs.lemmas.List.{length-map}
 use Rattle.std.specs.Cmp.{tied_itself}
 use Rattle.std.specs.List.{AllByRecursion}
 use Rattle.std.specs.List.Sorted.{IsStrictlySortedBy}
-use Rattle.std.specs.Ordering.{is_eq, is_gt}
+use Rattle.std.specs.Ordering.{is_eq}
 use Rattle.std.specs.Prelude.{IsTrue}
-use Rattle.std.specs.declared.cmp.Ordering.{Ordering}
 use Rattle.semantics.specs.Aggregates.{AggregateFunction}
 use Rattle.semantics.specs.Columns.{Field}
 use Rattle.semantics.specs.Found.{aggregate_functions, group_summary}
 use Rattle.semantics.specs.GroupStates.{entries_over, entry_over, function_state}
 use Rattle.semantics.specs.Groups.{Key, Row, key_order, keys, members, project, same_key}
-use Rattle.semantics.specs.Order.{in_order, insertion}
+use Rattle.semantics.specs.Order.{in_order}
 use Rattle.semantics.specs.Records.{Fits}
 use Rattle.semantics.specs.Sets.{grouping_places}
 use Rattle.semantics.specs.Syntax.{TreeForm}
-use Rattle.tables_groups.specs.Bags.{SameBag, weigh}
-use Rattle.tables_groups.proofs.Ascending.{in_order-sorted}
-use Rattle.tables_groups.proofs.Bags.{weigh-map}
-use Rattle.tables_groups.proofs.Covering.{lines-add_up}
-use Rattle.tables_groups.proofs.GroupsLaw.{keys-distinct}
-use Rattle.tables_groups.proofs.Order.{key_total}
+use Rattle.group_tables.proofs.Ascending.{in_order-sorted}
+use Rattle.group_tables.proofs.Bags.{sum_by-map}
+use Rattle.group_tables.proofs.Covering.{lines-add_up}
+use Rattle.group_tables.proofs.GroupsLaw.{keys-distinct}
+use Rattle.group_tables.proofs.Order.{key_total}
+use Rattle.group_tables.proofs.Sorting.{sum_by-in_order}
 use Rattle.tables.proofs.Bags.{all-distinct, all-everywhere, all-filter}
-use Rattle.part_groups.specs.Groups.{ShapeForm}
-use Rattle.part_groups.specs.Known.{AreGroupsFor, AreStatesFor, IsAbove, IsKeyFor}
-use Rattle.part_groups.specs.Reading.{Before, after, can_have_members}
+use Rattle.part_lines.specs.Groups.{ShapeForm}
+use Rattle.part_lines.specs.Known.{AreGroupsFor, AreStatesFor, IsAbove, IsKeyFor}
+use Rattle.part_lines.specs.Reading.{Before, after, can_have_members}
 use Rattle.parts.specs.ReadingParts.{can_have, shape_under, type_at}
 use Rattle.parts.proofs.Lists.{all-ordered, distinct-le, length-ordered, weaker}
 use Rattle.parts.proofs.RecordStates.{keys-fit, states-fit}
-
--- ---- a list in order
-
-weigh-inserted : {X : Type 0} (order : X → X → Ordering) (weight : X → ℕ) (x : X) (ys : List X) → weigh weight (insertion order x ys) ≡ weight x + weigh weight ys
-weigh-inserted order weight x [] = refl
-weigh-inserted order weight x (y ∷ ys) =
-    elim (is_gt (order x y)) as (λ (later : Bool). weigh weight (cond later (y ∷ insertion order x ys) (x ∷ y ∷ ys)) ≡ weight x + (weight y + weigh weight ys)) [
-      | true ↦ let h = weigh-inserted order weight x ys in omega (arith, h)
-      | false ↦ refl
-    ]
-
--- it has the same things
-bag-ordered : {X : Type 0} (order : X → X → Ordering) (xs : List X) → SameBag (in_order order xs) xs
-bag-ordered order [] weight = refl
-bag-ordered order (x ∷ xs) weight = weigh-inserted order weight x (in_order order xs) ∙ ap (λ (n : ℕ). weight x + n) (bag-ordered order xs weight)
 
 -- ---- the keys of records
 
@@ -56,10 +41,10 @@ keys-few (place ∷ places) rows =
     omega (arith, few, same)
 
 -- the members of all keys, in order, are as many as the records
-members-counted : (set : List ℕ) (rows : List Row) → weigh (λ key. length (members set key rows)) (in_order key_order (keys set rows)) ≡ length rows
+members-counted : (set : List ℕ) (rows : List Row) → sum_by (λ key. length (members set key rows)) (in_order key_order (keys set rows)) ≡ length rows
 members-counted set rows =
-    bag-ordered key_order (keys set rows) (λ key. length (members set key rows))
-    ∙ sym (weigh-map (λ group. group.lines) (λ key. group_summary [] key (members set key rows)) (keys set rows))
+    sum_by-in_order key_order (λ key. length (members set key rows)) (keys set rows)
+    ∙ sym (sum_by-map (λ group. group.lines) (λ key. group_summary [] key (members set key rows)) (keys set rows))
     ∙ lines-add_up set [] rows
 
 -- ---- a key by grouping columns has a member
@@ -105,14 +90,15 @@ entries-fit : (shape : ShapeForm) (set : List ℕ) (functions : List AggregateFu
     → ((key : Key) → AreStatesFor (length (members set key rows)) shape.states (map (λ f. function_state f (members set key rows)) functions))
     → (before : Before) (ks : List Key) → AllByRecursion (IsKeyFor shape.columns) ks
     → AllByRecursion (λ key. IsTrue (can_have_members shape.columns (length (members set key rows)))) ks → AllByRecursion (IsAbove key_order before.last) ks → IsStrictlySortedBy key_order ks
-    → weigh (λ key. length (members set key rows)) ks ≤ before.left
+    → sum_by (λ key. length (members set key rows)) ks ≤ before.left
     → AreGroupsFor shape before (map (entry_over set functions rows) ks)
 unfolding IsStrictlySortedBy
 entries-fit shape set functions rows states before [] fit possible above sorted few = tt
-entries-fit shape set functions rows states before (k ∷ ks) fit possible above sorted few = (
-  record { key = fit.0; above = above.0; members = omega (arith, few); possible = possible.0; states = states k },
-  entries-fit shape set functions rows states (after before (entry_over set functions rows k)) ks fit.1 possible.1 sorted.0 sorted.1 (omega (arith, few)),
-)
+entries-fit shape set functions rows states before (k ∷ ks) fit possible above sorted few =
+    let sum = sum_by-cons (λ key. length (members set key rows)) k ks in (
+      record { key = fit.0; above = above.0; members = omega (arith, few, sum); possible = possible.0; states = states k },
+      entries-fit shape set functions rows states (after before (entry_over set functions rows k)) ks fit.1 possible.1 sorted.0 sorted.1 (omega (arith, few, sum)),
+    )
 
 -- the groups of records that fit are read, where no fewer members are left than there are records
 pub groups-fit : (fields : List Field) (q : TreeForm) (rows : List Row) (left : ℕ) → AllByRecursion (Fits fields) rows → length rows ≤ left

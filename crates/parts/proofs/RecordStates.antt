@@ -23,15 +23,15 @@ use Rattle.semantics.specs.declared.kind.Kind.{Kind}
 use Rattle.semantics.specs.declared.kind.Kind.TheVariants as kind
 use Rattle.query_resolve.specs.Functions.{indexed_functions}
 use Rattle.query_resolve.specs.declared.function.FilteredFunction.{FilteredFunction}
-use Rattle.part_groups.specs.Known.{AreDifferentOf, AreStatesFor, IsAscending, IsKeyFor, IsStateFor, IsSumOf}
+use Rattle.part_lines.specs.Known.{AreDifferentOf, AreStatesFor, IsAscending, IsKeyFor, IsStateFor, IsSumOf}
 use Rattle.tables.proofs.Bags.{all-distinct, all-filter, all-filter_map, find-such}
 use Rattle.tables.proofs.Bound.{bound-functions}
 use Rattle.query_plan.specs.Planned.{plan_of}
 use Rattle.tables.specs.Functions.{filter_tests}
-use Rattle.tables_groups.proofs.Ascending.{in_order-sorted}
-use Rattle.tables_groups.proofs.Order.{value_total}
-use Rattle.tables_groups.proofs.Repeats.{distinct-is}
-use Rattle.tables_groups.specs.Functions.{aggregates_of, filter_at}
+use Rattle.group_tables.proofs.Ascending.{in_order-sorted}
+use Rattle.group_tables.proofs.Order.{value_total}
+use Rattle.group_tables.proofs.Repeats.{distinct-is}
+use Rattle.group_tables.specs.Functions.{aggregates_of, filter_at}
 use Rattle.parts.specs.ReadingParts.{state_kind, state_kind_by, type_at}
 use Rattle.parts.proofs.Lists.{all-ordered, distinct-le, filter-le, length-ordered, weaker}
 

@@ -1,13 +1,13 @@
 -- Reading refused lines one after the other, as a loop does: those before and those that are still read are all.
 use Rattle.std.proofs.Common.{◌≡◌, ℕ, suc, ◌-◌, ◌+◌, ◌≤◌, ◌<◌, List, [], ◌∷◌, ◌++◌, Result, Ok, Err, refl, sym, ap, ◌∙◌, append_assoc, append-nil, arith}
-use Rattle.part_groups.specs.Reading.{Stream}
+use Rattle.part_lines.specs.Faults.{Fault}
+use Rattle.part_lines.specs.Reading.{Refuses, Stream}
+use Rattle.part_lines.specs.declared.fault.PartRefusal.{PartRefusal}
+use Rattle.part_lines.specs.declared.fault.PartRefusal.TheVariants as refusal
 use Rattle.semantics.specs.Columns.{Field}
 use Rattle.semantics.specs.declared.line_fault.LineFault.{LineFault}
-use Rattle.parts.specs.declared.fault.PartRefusal.{PartRefusal}
-use Rattle.parts.specs.declared.fault.PartRefusal.TheVariants as refusal
-use Rattle.parts.specs.Faults.{Fault}
-use Rattle.parts.specs.Inside.Faults.{Refuses}
-use Rattle.parts.specs.ReadingParts.{◌>>=◌, refused_at, refused_line_at}
+use Rattle.values.specs.Results.{◌>>=◌}
+use Rattle.parts.specs.ReadingParts.{refused_at, refused_line_at}
 
 abbrev Refused : Type 0
 Refused = List (ℕ × LineFault)

@@ -5,12 +5,12 @@ use Rattle.std.proofs.lemmas.List.Elements.{All-nil, All-push, All-weaker}
 use Rattle.std.specs.List.{AllZip}
 use Rattle.std.specs.declared.cmp.Ordering.TheVariants.{Less}
 use Rattle.std.specs.Prelude.{option_map, unwrap_or}
-use Rattle.group_states.specs.States.{entry_of}
+use Rattle.values.specs.GroupStates.{entry_of}
 use Rattle.semantics.specs.GroupStates.{EntryForm, FunctionState}
-use Rattle.group_states.specs.declared.entry.GroupEntry.{GroupEntry}
+use Rattle.values.specs.declared.group_entry.GroupEntry.{GroupEntry}
 use Rattle.semantics.specs.GroupStates as state
-use Rattle.part_groups.specs.Known as known
-use Rattle.part_groups.specs.declared.shape.StateKind.TheVariants as kind
+use Rattle.part_lines.specs.Known as known
+use Rattle.part_lines.specs.declared.shape.StateKind.TheVariants as kind
 use Rattle.query_plan.specs.Planned.{PlannedQuery}
 use Rattle.query_resolve.specs.Functions.{indexed_functions}
 use Rattle.query_resolve.specs.declared.function.FilteredFunction.{FilteredFunction}
@@ -27,11 +27,11 @@ use Rattle.semantics.specs.declared.kind.Kind.{Kind}
 use Rattle.tables.specs.Contents.{groups_in}
 use Rattle.tables.specs.States.{PartialState}
 use Rattle.tables.proofs.Columns.{functions-columns, grouping-columns}
-use Rattle.tables_groups.proofs.Order.{key_total}
-use Rattle.tables_groups.specs.Fitting.{IsHeld}
-use Rattle.tables_groups.specs.Accumulator.{IsSumOf}
-use Rattle.tables_groups.specs.Entries.{AreStatesFor, HasFormBy, IsBehind, IsCountState, IsDistinctState, IsEntryFor, IsExtremeOf, IsExtremeState, IsRowsState, IsSumState, IsTypedEntry}
-use Rattle.tables_groups.specs.Typed.{AreColumns, HasColumn, HaveColumns, IsKeyOf}
+use Rattle.group_tables.proofs.Order.{key_total}
+use Rattle.group_tables.specs.Fitting.{IsHeld}
+use Rattle.group_tables.specs.Accumulator.{IsSumOf}
+use Rattle.group_tables.specs.Entries.{AreStatesFor, HasFormBy, IsBehind, IsCountState, IsDistinctState, IsEntryFor, IsExtremeOf, IsExtremeState, IsRowsState, IsSumState, IsTypedEntry}
+use Rattle.group_tables.specs.Typed.{AreColumns, HasColumn, HaveColumns, IsKeyOf}
 use Rattle.parts.specs.Inside.Gathering.{CanHold, IsLastOf, key_of, last_of}
 use Rattle.parts.specs.ReadingParts.{shape_under, state_kind, state_kind_by, type_at}
 

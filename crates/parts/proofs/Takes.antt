@@ -26,7 +26,7 @@ use Rattle.lines.specs.Clip.{clip_lines}
 use Rattle.query_plan.specs.Planned.{PlannedQuery}
 use Rattle.tables.proofs.Bags.{all-append}
 use Rattle.tables.specs.States.{PartialState}
-use Rattle.part_groups.specs.Known.{IsWritable}
+use Rattle.part_lines.specs.Known.{IsWritable}
 use Rattle.parts.specs.Joining.{AnswersParts, IsNoFault}
 use Rattle.parts.specs.Inside.Reader.{IsKnown, ReaderState, stream_of}
 use Rattle.parts.specs.ReadingParts.{parts_at}

@@ -4,7 +4,7 @@ use Rattle.std.proofs.lemmas.List.{length-map}
 use Rattle.std.specs.List.{AllByRecursion, AllZip}
 use Rattle.std.specs.Prelude.{option_map}
 use Rattle.semantics.specs.GroupStates.{entries_over, entry_over, function_state, state_by}
-use Rattle.part_groups.specs.Groups.{HasKind, HasShape, HaveShape}
+use Rattle.part_lines.specs.Groups.{HasKind, HasShape, HaveShape}
 use Rattle.query_resolve.specs.Functions.{indexed_functions}
 use Rattle.query_resolve.specs.declared.function.FilteredFunction.{FilteredFunction}
 use Rattle.semantics.specs.Aggregates.{AggregateFunction}
@@ -20,7 +20,7 @@ use Rattle.tables.proofs.Bags.{all-distinct, all-everywhere, all-map}
 use Rattle.tables.proofs.Bound.{bound-functions}
 use Rattle.query_plan.specs.Planned.{plan_of}
 use Rattle.tables.specs.Functions.{filter_tests}
-use Rattle.tables_groups.specs.Functions.{aggregates_of, filter_at}
+use Rattle.group_tables.specs.Functions.{aggregates_of, filter_at}
 use Rattle.parts.proofs.Lists.{all-ordered, weaker}
 use Rattle.parts.specs.ReadingParts.{shape_under, state_kind, state_kind_by, type_at}
 

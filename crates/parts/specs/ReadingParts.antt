@@ -17,39 +17,22 @@ use Rattle.semantics.specs.declared.kind.Kind.{Kind}
 use Rattle.semantics.specs.declared.kind.Kind.TheVariants as type
 use Rattle.semantics.specs.declared.line_fault.LineFault.{LineFault}
 use Rattle.semantics.specs.declared.line_fault.LineFault.TheVariants.{TooLong, NoJson, NoObject, BadValue}
-use Rattle.part_groups.specs.declared.fault.GroupFault.{GroupFault}
-use Rattle.part_groups.specs.declared.shape.StateKind.{StateKind}
-use Rattle.part_groups.specs.declared.shape.StateKind.TheVariants as kind
-use Rattle.part_groups.specs.Groups.{ShapeForm}
-use Rattle.part_groups.specs.Reading.{Stream, count_at, count_within, groups_at, value_at}
+use Rattle.part_lines.specs.Faults.{Fault, FaultKind, no_part, not_a_part, other_version, other_columns, other_query, unexpected_value, out_of_order, out_of_range, wrong_checksum, too_many_lines}
+use Rattle.part_lines.specs.declared.shape.StateKind.{StateKind}
+use Rattle.part_lines.specs.declared.shape.StateKind.TheVariants as kind
+use Rattle.part_lines.specs.Groups.{ShapeForm}
+use Rattle.part_lines.specs.Reading.{Stream, count_at, count_within, fault_at, groups_at, passed, value_at}
 use Rattle.semantics.specs.Parts.{text_of, ContentsForm, columns_text, mark, values_with}
+use Rattle.values.specs.Results.{◌>>=◌}
 use Rattle.query_resolve.specs.Functions.{indexed_functions}
 use Rattle.query_resolve.specs.declared.function.FilteredFunction.{FilteredFunction}
 use Rattle.parts.specs.Shown.{shortened, shown}
-use Rattle.parts.specs.Faults.{Fault, FaultKind, PartedFault, in_part, group_fault, no_part, not_a_part, other_version, other_columns, other_query, unexpected_value, out_of_order, out_of_range, wrong_checksum, too_many_lines}
-
--- One reading and then another one, which a fault of the first ends.
-infixl 10 ◌>>=◌
-abbrev pub ◌>>=◌ : {A B E : Type 0} → Result A E → (A → Result B E) → Result B E
-(Ok x) >>= f = f x
-(Err fault) >>= f = Err fault
+use Rattle.parts.specs.Faults.{PartedFault, in_part}
 
 -- What was read, with its fault seen by `view`.
 abbrev pub with_fault : {A E F : Type 0} → (E → F) → Result A E → Result A F
 with_fault view (Ok x) = Ok x
 with_fault view (Err fault) = Err (view fault)
-
--- What is read as part of groups, as part of a part.
-abbrev pub of_part : {A : Type 0} → Result A GroupFault → Result A Fault
-of_part read = with_fault group_fault read
-
--- The fault of this kind at the line that was read last.
-abbrev pub fault_at : FaultKind → Stream → Fault
-fault_at kind s = record { line = s.place; kind = kind }
-
--- Nothing where a test is passed, and else a fault of this kind at the line that was read last.
-abbrev pub passed : Bool → FaultKind → Stream → Result (Unit {0}) Fault
-passed test kind s = if test then Ok tt else Err (fault_at kind s)
 
 -- ---- texts
 
@@ -61,7 +44,7 @@ text_in d s = Err (fault_at unexpected_value s)
 -- A text.
 unfoldable pub text_at : Stream → Result (List ℕ × Stream) Fault
 text_at s = do
-  d ← of_part (value_at s)
+  d ← value_at s
   t ← text_in d.0 d.1
   Ok (t, d.1)
 
@@ -131,7 +114,7 @@ mark_at s = do
 -- How many lines there are: with those of the parts before fewer than 2^63.
 unfoldable pub lines_at : ℕ → Stream → Result (ℕ × Stream) Fault
 lines_at before s = do
-  n ← of_part (count_at s)
+  n ← count_at s
   few ← passed (nat_lt (before + n.0) (2 ^ 63)) too_many_lines n.1
   Ok n
 
@@ -154,7 +137,7 @@ line_fault_in (Some fault) s = Ok fault
 -- A refused line: its number, above the last one and not above that of the lines, and its fault.
 unfoldable pub refused_line_at : List Field → ℕ → ℕ → Stream → Result ((ℕ × LineFault) × Stream) Fault
 refused_line_at fields lines last s = do
-  n ← of_part (count_within lines s)
+  n ← count_within lines s
   above ← passed (nat_lt last n.0) out_of_order n.1
   t ← text_at n.1
   fault ← line_fault_in (fault_named fields t.0) t.1
@@ -171,7 +154,7 @@ refused_at fields lines (suc n) last s = do
 -- The refused lines behind their number.
 unfoldable pub all_refused_at : List Field → ℕ → Stream → Result (List (ℕ × LineFault) × Stream) Fault
 all_refused_at fields lines s = do
-  n ← of_part (count_within lines s)
+  n ← count_within lines s
   refused_at fields lines n.0 0 n.1
 
 -- ---- groups
@@ -214,7 +197,7 @@ can_have (k ∷ ks) count = true
 -- How many groups there are.
 unfoldable pub group_count_at : ShapeForm → Stream → Result (ℕ × Stream) Fault
 group_count_at shape s = do
-  n ← of_part (count_at s)
+  n ← count_at s
   possible ← passed (can_have shape.columns n.0) out_of_range n.1
   Ok n
 
@@ -238,7 +221,7 @@ contents_at fields q before s = do
   n ← lines_at before s
   refused ← all_refused_at fields n.0 n.1
   count ← group_count_at (shape_under fields q) refused.1
-  groups ← of_part (groups_at (shape_under fields q) count.0 None (n.0 - length refused.0) count.1)
+  groups ← groups_at (shape_under fields q) count.0 None (n.0 - length refused.0) count.1
   Ok (record { lines = n.0; refused = refused.0; groups = groups.0 }, groups.1)
 
 -- The checksum of these lines.

@@ -3,19 +3,18 @@ ghost use Rattle.hex.specs.Hex.{encode_lower};
 ghost use Rattle.sha2.specs.Sha256.{sha256};
 ghost use Rattle.sha2.specs.Hashers.{Holds256};
 ghost use Rattle.std.specs.Prelude.{◌≡◌, ◌≤◌, ℕ, IfOk, List, OnOk, string_bytes};
-ghost use Rattle.parts.specs.Inside.Faults.{Gives};
+ghost use Rattle.part_lines.specs.Reading.{Gives};
 ghost use Rattle.parts.specs.Inside.Hashing.{HoldsText};
 ghost use Rattle.semantics.specs.Parts.{with_checksum};
 ghost use Rattle.parts.specs.ReadingParts.{checksum_at};
 
-use crate::fault::PartRefusal;
-use crate::texts::{check, next_text};
+use crate::texts::next_text;
 use crate::writing::push_text;
-use group_states::GroupEntry;
-use part_groups::{Source, push_group};
+use part_lines::{PartRefusal, ValueReader, check, push_group};
 use semantics::PartsFaultKind;
 use sha2::{Digest, Sha256};
 use std::alloc::{AllocError, Global};
+use values::GroupEntry;
 
 /// How many bytes of a text are hashed at once, at least.
 const MIN_PIECE_LEN: usize = 4096;
@@ -31,7 +30,7 @@ pub(crate) struct TextHasher {
 
 impl TextHasher {
     ghost use Rattle.std.specs.Prelude.{◌++◌};
-    ghost use Rattle.group_states.specs.States.{entry_of};
+    ghost use Rattle.values.specs.GroupStates.{entry_of};
     ghost use Rattle.semantics.specs.Parts.{group_values, text_of};
 
     /// What was given this text.
@@ -100,7 +99,7 @@ pub(crate) fn with_checksum(alloc: Global, lines: Vec<u8>) -> Result<Vec<u8>, Al
 
 /// The next value, which is the checksum of the text that a hasher was given.
 #[tactic(auto, unfolding(crate::specs::ReadingParts::checksum_at))]
-pub(crate) fn next_checksum<S: Source>(
+pub(crate) fn next_checksum<S: ValueReader>(
     alloc: Global,
     source: &mut S,
     hasher: TextHasher,

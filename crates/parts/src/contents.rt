@@ -1,23 +1,22 @@
 //! The contents of a part: its lines, the refused ones of them, and its groups.
-ghost use Rattle.std.specs.Prelude.{◌≡◌, ◌+◌, ◌-◌, ◌^◌, ◌<◌, ◌≤◌, All, IfOk, None, OnOk, [], length, string_bytes};
-ghost use Rattle.part_groups.specs.Groups.{shape_of};
+ghost use Rattle.std.specs.Prelude.{◌≡◌, ◌+◌, ◌-◌, ◌<◌, ◌≤◌, All, IfOk, None, OnOk, [], length, string_bytes};
+ghost use Rattle.part_lines.specs.Groups.{shape_of};
 ghost use Rattle.semantics.specs.Parts.{text_of, columns_text, values_with};
 ghost use Rattle.semantics.specs.Canonical.{canonical_text};
 ghost use Rattle.tables.specs.Contents.{HasRefusals, groups_in};
-ghost use Rattle.parts.specs.Inside.Faults.{Gives};
+ghost use Rattle.part_lines.specs.Reading.{Gives};
 ghost use Rattle.parts.specs.Inside.Hashing.{HoldsText};
 ghost use Rattle.parts.specs.Inside.Gathering.{IsGathering, IsOfOnePiece, contents_of};
 ghost use Rattle.parts.specs.ReadingParts.{can_have, contents_at, group_count_at, lines_at, shape_under};
+ghost use Rattle.semantics.specs.Limits.{input_limit};
 
 use crate::checksum::TextHasher;
-use crate::fault::PartRefusal;
 use crate::gathering::Gathering;
 use crate::groups::next_groups;
 use crate::refused::next_refused;
-use crate::texts::check;
 use crate::writing::{Header, front_text};
 use lines::LineFault;
-use part_groups::{GroupShape, Source, next_count};
+use part_lines::{GroupShape, PartRefusal, ValueReader, check, next_count};
 use query_plan::Plan;
 use semantics::{Kind, PartsFaultKind};
 use std::alloc::{AllocError, Global};
@@ -28,12 +27,12 @@ const LINES_LIMIT: u128 = 0x8000_0000_0000_0000;
 
 /// How many lines there are: with those before fewer than 2^63.
 #[tactic(auto, unfolding(crate::specs::ReadingParts::lines_at))]
-fn next_lines<S: Source>(source: &mut S, before: u64) -> Result<u64, PartRefusal>
+fn next_lines<S: ValueReader>(source: &mut S, before: u64) -> Result<u64, PartRefusal>
     ensures known { S.known source.old → OnOk result (S.known source.new) }
     ensures onward { OnOk result ((S.stream source.old).place ≤ (S.stream source.new).place) }
     ensures read { S.known source.old → Gives (λ n. (n, S.stream source.new)) result
         (lines_at before (S.stream source.old)) }
-    ensures few { IfOk result (λ n. before + n < 2 ^ 63) }
+    ensures few { IfOk result (λ n. before + n < input_limit) }
 {
     let lines = next_count(source)?;
     check(
@@ -53,7 +52,7 @@ fn can_have(columns: &[Kind], count: u64) -> bool
 
 /// How many groups there are.
 #[tactic(auto, unfolding(crate::specs::ReadingParts::group_count_at))]
-fn next_group_count<S: Source>(source: &mut S, shape: &GroupShape) -> Result<u64, PartRefusal>
+fn next_group_count<S: ValueReader>(source: &mut S, shape: &GroupShape) -> Result<u64, PartRefusal>
     ensures known { S.known source.old → OnOk result (S.known source.new) }
     ensures onward { OnOk result ((S.stream source.old).place ≤ (S.stream source.new).place) }
     ensures read { S.known source.old → Gives (λ n. (n, S.stream source.new)) result
@@ -77,7 +76,7 @@ fn before_groups<E: Executor>(
     lines: u64,
     refused: Vec<(u64, LineFault)>,
 ) -> Result<Gathering, AllocError>
-    requires few { lines < 2 ^ 63 }
+    requires few { lines < input_limit }
     requires fewer { length refused.items ≤ lines }
     requires numbered { All (λ line. line.0 ≤ lines) refused.items }
     ensures gathering { IfOk result (IsGathering plan.now) }
@@ -100,7 +99,7 @@ fn before_groups<E: Executor>(
 /// The contents of a part of a plan, whose first lines, texts of its groups and grouping columns are these, and which has
 /// fewer than 2^63 lines with those before it.
 #[tactic(auto, unfolding(crate::specs::ReadingParts::contents_at))]
-pub(crate) fn next_contents<S: Source, E: Executor>(
+pub(crate) fn next_contents<S: ValueReader, E: Executor>(
     alloc: Global,
     plan: &Plan,
     executor: &E,
@@ -121,7 +120,7 @@ pub(crate) fn next_contents<S: Source, E: Executor>(
     ensures hashed { IfOk result (λ so_far. HoldsText so_far.hasher
         (text_of (values_with plan.now.fields plan.now.query (contents_of so_far)))) }
     ensures one { IfOk result (λ so_far. IsOfOnePiece so_far.partial) }
-    ensures few { IfOk result (λ so_far. before + so_far.partial.lines < 2 ^ 63) }
+    ensures few { IfOk result (λ so_far. before + so_far.partial.lines < input_limit) }
 {
     let columns = plan.schema().columns();
     let lines = next_lines(source, before)?;

@@ -1,9 +1,9 @@
 //! The groups of a part, put to a partial result as they come.
 ghost use Rattle.std.specs.Option.{option_copied};
 ghost use Rattle.std.specs.Prelude.{◌≡◌, ◌-◌, ◌++◌, ◌∷◌, [], ℕ, IfOk, List, None, OnOk, Some, option_map};
-ghost use Rattle.group_states.specs.States.{entry_of};
+ghost use Rattle.values.specs.GroupStates.{entry_of};
 ghost use Rattle.semantics.specs.Parts.{group_values, text_of};
-ghost use Rattle.part_groups.specs.Known.{IsGroupFor};
+ghost use Rattle.part_lines.specs.Known.{IsGroupFor};
 ghost use Rattle.parts.specs.Inside.Hashing.{HoldsText};
 ghost use Rattle.tables.specs.Contents.{DiffersInGroups};
 ghost use Rattle.tables.specs.Sound.{IsSoundUnder};
@@ -12,11 +12,10 @@ ghost use Rattle.parts.specs.ReadingParts.{shape_under};
 
 use crate::checksum::TextHasher;
 use crate::putting::put_last;
-use group_states::GroupEntry;
 use query_plan::Plan;
 use std::alloc::{AllocError, Global};
 use tables::Partial;
-use values::Value;
+use values::{GroupEntry, Value};
 
 /// The groups of a part that were read so far.
 #[derive(Drop)]

@@ -1,22 +1,20 @@
 //! The groups of a part.
 ghost use Rattle.std.specs.Prelude.{◌≡◌, ◌≤◌, ◌++◌, ℕ, IfOk, List, None, OnOk, length};
-ghost use Rattle.part_groups.specs.Groups.{shape_of};
+ghost use Rattle.part_lines.specs.Groups.{shape_of};
 ghost use Rattle.semantics.specs.Parts.{groups_values, text_of};
-ghost use Rattle.part_groups.specs.Reading.{groups_at};
+ghost use Rattle.part_lines.specs.Reading.{Gives, groups_at};
 ghost use Rattle.tables.specs.Contents.{DiffersInGroups};
-ghost use Rattle.parts.specs.Inside.Faults.{Gives};
 ghost use Rattle.parts.specs.Inside.Hashing.{HoldsText};
 ghost use Rattle.parts.specs.Inside.Gathering.{IsGathering, groups_of};
-ghost use Rattle.parts.specs.ReadingParts.{of_part, shape_under};
+ghost use Rattle.parts.specs.ReadingParts.{shape_under};
 
-use crate::fault::PartRefusal;
 use crate::gathering::Gathering;
-use part_groups::{GroupShape, Source, next_group};
+use part_lines::{GroupShape, PartRefusal, ValueReader, next_group};
 use query_plan::Plan;
 use std::alloc::Global;
 
 /// The next groups, as many as are asked for. No memory is taken for a count before its groups have come.
-pub(crate) fn next_groups<S: Source>(
+pub(crate) fn next_groups<S: ValueReader>(
     alloc: Global,
     plan: &Plan,
     source: &mut S,
@@ -31,7 +29,7 @@ pub(crate) fn next_groups<S: Source>(
     ensures onward { OnOk result ((S.stream source.old).place ≤ (S.stream source.new).place) }
     ensures read { S.known source.old
         → Gives (λ next. (groups_of next, S.stream source.new)) result
-        (of_part (groups_at (shape_of shape.now) count None start.left (S.stream source.old))) }
+        (groups_at (shape_of shape.now) count None start.left (S.stream source.old)) }
     ensures count { IfOk result (λ next. length (groups_of next) ≡ count) }
     ensures gathering { IfOk result (IsGathering plan.now) }
     ensures hashed { IfOk result (λ next. (bytes : List ℕ) → HoldsText start.hasher bytes

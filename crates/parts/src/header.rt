@@ -3,15 +3,15 @@ ghost use Rattle.std.specs.Prelude.{◌≡◌, ◌<◌, ◌≤◌, IfOk, OnOk};
 ghost use Rattle.std.specs.Char.{is_ascii_digit};
 ghost use Rattle.std.specs.List.{list_all};
 ghost use Rattle.semantics.specs.Values as semantics;
-ghost use Rattle.parts.specs.Inside.Faults.{Gives, refusal_of_mark};
-ghost use Rattle.parts.specs.Faults.{kind_of, other_columns, other_query};
+ghost use Rattle.part_lines.specs.Faults.{kind_of, other_columns, other_query};
+ghost use Rattle.part_lines.specs.Reading.{Gives};
+ghost use Rattle.parts.specs.Inside.Faults.{refusal_of_mark};
 ghost use Rattle.parts.specs.ReadingParts.{behind_front, has_leading_zero, header_of, is_version, kind_of_mark, mark_at, mark_in, said_at};
 ghost use Rattle.parts.specs.Inside.Texts.{IsBehind};
 
-use crate::fault::{PartFault, PartRefusal};
 use crate::shown::shortened;
-use crate::texts::{fault, next_other};
-use part_groups::{GroupRefusal, Source};
+use crate::texts::next_other;
+use part_lines::{PartFault, PartRefusal, ValueReader, fault_at};
 use semantics::PartsFaultKind;
 use std::alloc::{AllocError, Global};
 use values::Value;
@@ -64,33 +64,33 @@ fn kind_of_mark(alloc: Global, text: &str) -> Result<PartsFaultKind, AllocError>
 }
 
 /// Nothing where a text is the mark, and else what is wrong with it.
-fn check_mark<S: Source>(alloc: Global, source: &S, text: &str) -> Result<(), PartRefusal>
+fn check_mark<S: ValueReader>(alloc: Global, source: &S, text: &str) -> Result<(), PartRefusal>
     ensures { S.known source.now
         → Gives (λ _. tt) result (mark_in (semantics.text text.now) (S.stream source.now)) }
 {
     if text == MARK {
         return Ok(());
     }
-    Err(fault(source, kind_of_mark(alloc, text)?))
+    Err(fault_at(source, kind_of_mark(alloc, text)?))
 }
 
 /// A refusal at the mark: where its line is no value, it is the line of no part.
-fn refusal_of_mark(refusal: GroupRefusal) -> PartRefusal
+fn refusal_of_mark(refusal: PartRefusal) -> PartRefusal
     ensures { result ≡ refusal_of_mark refusal }
 {
     match refusal {
-        GroupRefusal::Fault(fault) => PartRefusal::Fault(PartFault {
+        PartRefusal::Fault(fault) => PartRefusal::Fault(PartFault {
             line: fault.line,
             kind: PartsFaultKind::NotAPart,
         }),
-        GroupRefusal::Reading => PartRefusal::Reading,
-        GroupRefusal::OutOfMemory => PartRefusal::OutOfMemory,
+        PartRefusal::Reading => PartRefusal::Reading,
+        PartRefusal::OutOfMemory => PartRefusal::OutOfMemory,
     }
 }
 
 /// The mark.
 #[tactic(auto, unfolding(crate::specs::ReadingParts::mark_at))]
-fn next_mark<S: Source>(alloc: Global, source: &mut S) -> Result<(), PartRefusal>
+fn next_mark<S: ValueReader>(alloc: Global, source: &mut S) -> Result<(), PartRefusal>
     ensures known { S.known source.old → OnOk result (S.known source.new) }
     ensures onward { OnOk result ((S.stream source.old).place < (S.stream source.new).place) }
     ensures read { S.known source.old → Gives (λ _. (tt, S.stream source.new)) result
@@ -99,7 +99,7 @@ fn next_mark<S: Source>(alloc: Global, source: &mut S) -> Result<(), PartRefusal
     match source.next() {
         Ok(Value::Text(text)) => check_mark(alloc, source, text.as_str()),
         Ok(Value::Bool(_) | Value::Int(_) | Value::Null) => {
-            Err(fault(source, PartsFaultKind::NotAPart))
+            Err(fault_at(source, PartsFaultKind::NotAPart))
         }
         Err(refusal) => Err(refusal_of_mark(refusal)),
     }
@@ -107,7 +107,11 @@ fn next_mark<S: Source>(alloc: Global, source: &mut S) -> Result<(), PartRefusal
 
 /// The columns, whose text has to be this one.
 #[tactic(auto, unfolding(crate::specs::ReadingParts::said_at))]
-fn next_columns<S: Source>(alloc: Global, source: &mut S, columns: &str) -> Result<(), PartRefusal>
+fn next_columns<S: ValueReader>(
+    alloc: Global,
+    source: &mut S,
+    columns: &str,
+) -> Result<(), PartRefusal>
     ensures known { S.known source.old → OnOk result (S.known source.new) }
     ensures onward { OnOk result ((S.stream source.old).place ≤ (S.stream source.new).place) }
     ensures read { S.known source.old → Gives (λ _. (tt, S.stream source.new)) result
@@ -115,13 +119,13 @@ fn next_columns<S: Source>(alloc: Global, source: &mut S, columns: &str) -> Resu
 {
     match next_other(alloc, source, columns)? {
         None => Ok(()),
-        Some(line) => Err(fault(source, PartsFaultKind::OtherColumns(line))),
+        Some(line) => Err(fault_at(source, PartsFaultKind::OtherColumns(line))),
     }
 }
 
 /// The query, whose text has to be this one.
 #[tactic(auto, unfolding(crate::specs::ReadingParts::said_at))]
-fn next_query<S: Source>(alloc: Global, source: &mut S, query: &str) -> Result<(), PartRefusal>
+fn next_query<S: ValueReader>(alloc: Global, source: &mut S, query: &str) -> Result<(), PartRefusal>
     ensures known { S.known source.old → OnOk result (S.known source.new) }
     ensures onward { OnOk result ((S.stream source.old).place ≤ (S.stream source.new).place) }
     ensures read { S.known source.old → Gives (λ _. (tt, S.stream source.new)) result
@@ -129,13 +133,13 @@ fn next_query<S: Source>(alloc: Global, source: &mut S, query: &str) -> Result<(
 {
     match next_other(alloc, source, query)? {
         None => Ok(()),
-        Some(line) => Err(fault(source, PartsFaultKind::OtherQuery(line))),
+        Some(line) => Err(fault_at(source, PartsFaultKind::OtherQuery(line))),
     }
 }
 
 /// The first lines of a part: its mark, and its columns and its query, whose texts have to be these.
 #[tactic(auto, unfolding(crate::specs::ReadingParts::header_of))]
-pub(crate) fn next_header<S: Source>(
+pub(crate) fn next_header<S: ValueReader>(
     alloc: Global,
     source: &mut S,
     columns: &str,

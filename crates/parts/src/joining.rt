@@ -1,7 +1,7 @@
 //! Parts, one behind the other, read as the result of all of them.
-ghost use Rattle.std.specs.Prelude.{◌≡◌, ◌+◌, ◌^◌, ◌<◌, ℕ, IfOk, IfSome, List, OnOk, flat_map, string_bytes};
+ghost use Rattle.std.specs.Prelude.{◌≡◌, ◌+◌, ◌<◌, ℕ, IfOk, IfSome, List, OnOk, flat_map, string_bytes};
 ghost use Rattle.lines.specs.Clip.{clip_lines};
-ghost use Rattle.part_groups.specs.Groups.{shape_of};
+ghost use Rattle.part_lines.specs.Groups.{shape_of};
 ghost use Rattle.semantics.specs.Canonical.{canonical_text};
 ghost use Rattle.semantics.specs.Lines.{lines};
 ghost use Rattle.tables.specs.Partials.{StandsForInput};
@@ -15,13 +15,14 @@ ghost use Rattle.semantics.specs.Joins.{CanBeJoined};
 ghost use Rattle.semantics.specs.Parts.{columns_text, concatenated, part_text};
 ghost use Rattle.parts.specs.ReadingParts.{part_at, shape_under, with_fault};
 ghost use Rattle.parts.specs.Inside.Reader.{IsKnown, stream_of};
+ghost use Rattle.semantics.specs.Limits.{input_limit};
 
-use crate::fault::{PartRefusal, PartsRefusal};
+use crate::fault::PartsRefusal;
 use crate::part::next_part;
 use crate::reader::PartReader;
 use crate::shape::shape_over;
 use crate::writing::{Header, header_of};
-use part_groups::GroupShape;
+use part_lines::{GroupShape, PartRefusal};
 use query_plan::Plan;
 use semantics::{PartsFault, PartsFaultKind};
 use std::alloc::Global;
@@ -43,7 +44,16 @@ fn refusal_in(part: u64, refusal: PartRefusal) -> PartsRefusal
     }
 }
 
-/// The result that the next part is, which has this number.
+/// Where a part stands among others.
+#[derive(Clone, Copy)]
+struct PartPlace {
+    /// Its number, from 1.
+    number: u64,
+    /// How many lines the inputs of the parts before it have together.
+    lines_before: u64,
+}
+
+/// The result that the next part is, which stands at this place.
 fn next_numbered<R: Read + Drop, E: Executor>(
     alloc: Global,
     plan: &Plan,
@@ -51,8 +61,7 @@ fn next_numbered<R: Read + Drop, E: Executor>(
     reader: &mut PartReader<R>,
     header: &Header,
     shape: &GroupShape,
-    part: u64,
-    before: u64,
+    place: PartPlace,
 ) -> Result<Partial, PartsRefusal>
     requires shape { shape_of shape.now ≡ shape_under plan.now.fields plan.now.query }
     requires columns { string_bytes header.now.columns ≡ columns_text plan.now.fields }
@@ -61,15 +70,23 @@ fn next_numbered<R: Read + Drop, E: Executor>(
     ensures onward { OnOk result (reader.old.line < reader.new.line) }
     ensures read { IsKnown reader.old
         → GivesParts (λ partial. (contents_in partial, stream_of reader.new)) result
-        (with_fault (in_part part)
-        (part_at plan.now.fields plan.now.query before (stream_of reader.old))) }
+        (with_fault (in_part place.number)
+        (part_at plan.now.fields plan.now.query place.lines_before (stream_of reader.old))) }
     ensures sound { IfOk result (IsSoundUnder plan.now) }
     ensures one { IfOk result IsOfOnePiece }
-    ensures few { IfOk result (λ partial. before + partial.lines < 2 ^ 63) }
+    ensures few { IfOk result (λ partial. place.lines_before + partial.lines < input_limit) }
 {
-    match next_part(alloc, plan, executor, reader, header, shape, before) {
+    match next_part(
+        alloc,
+        plan,
+        executor,
+        reader,
+        header,
+        shape,
+        place.lines_before,
+    ) {
         Ok(partial) => Ok(partial),
-        Err(refusal) => Err(refusal_in(part, refusal)),
+        Err(refusal) => Err(refusal_in(place.number, refusal)),
     }
 }
 
@@ -98,7 +115,11 @@ fn join_rest<R: Read + Drop, E: Executor>(
     let mut part = 2;
     while reader.has_line()? {
         let before = whole.lines();
-        let rest = next_numbered(alloc, plan, executor, reader, header, shape, part, before)?;
+        let place = PartPlace {
+            number: part,
+            lines_before: before,
+        };
+        let rest = next_numbered(alloc, plan, executor, reader, header, shape, place)?;
         whole = whole.follow_by(executor, rest)?;
         part += 1;
     }
@@ -150,6 +171,10 @@ pub fn read_parts<R: Read + Drop, E: Executor>(
             kind: PartsFaultKind::NoPart,
         }));
     }
-    let first = next_numbered(alloc, plan, executor, &mut reader, &header, &shape, 1, 0)?;
+    let place = PartPlace {
+        number: 1,
+        lines_before: 0,
+    };
+    let first = next_numbered(alloc, plan, executor, &mut reader, &header, &shape, place)?;
     join_rest(alloc, plan, executor, &mut reader, &header, &shape, first)
 }

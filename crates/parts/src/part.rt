@@ -1,20 +1,20 @@
 //! A part, from its mark to its checksum.
-ghost use Rattle.std.specs.Prelude.{◌≡◌, ◌+◌, ◌^◌, ◌<◌, IfOk, OnOk, string_bytes};
-ghost use Rattle.part_groups.specs.Groups.{shape_of};
+ghost use Rattle.std.specs.Prelude.{◌≡◌, ◌+◌, ◌<◌, IfOk, OnOk, string_bytes};
+ghost use Rattle.part_lines.specs.Groups.{shape_of};
 ghost use Rattle.semantics.specs.Canonical.{canonical_text};
 ghost use Rattle.tables.specs.Sound.{IsSoundUnder};
-ghost use Rattle.parts.specs.Inside.Faults.{Gives};
+ghost use Rattle.part_lines.specs.Reading.{Gives};
 ghost use Rattle.parts.specs.Inside.Gathering.{IsOfOnePiece, contents_in};
 ghost use Rattle.semantics.specs.Parts.{columns_text};
 ghost use Rattle.parts.specs.ReadingParts.{part_at, shape_under};
+ghost use Rattle.semantics.specs.Limits.{input_limit};
 
 use crate::checksum::next_checksum;
 use crate::contents::next_contents;
-use crate::fault::PartRefusal;
 use crate::gathering::Gathering;
 use crate::header::next_header;
 use crate::writing::Header;
-use part_groups::{GroupShape, Source};
+use part_lines::{GroupShape, PartRefusal, ValueReader};
 use query_plan::Plan;
 use std::alloc::Global;
 use tables::{Executor, Partial};
@@ -22,7 +22,7 @@ use tables::{Executor, Partial};
 /// The result that the next part is, which is one of a plan, whose first lines and groups are so, and has fewer than 2^63
 /// lines with those before it.
 #[tactic(auto, unfolding(crate::specs::ReadingParts::part_at))]
-pub(crate) fn next_part<S: Source, E: Executor>(
+pub(crate) fn next_part<S: ValueReader, E: Executor>(
     alloc: Global,
     plan: &Plan,
     executor: &E,
@@ -41,7 +41,7 @@ pub(crate) fn next_part<S: Source, E: Executor>(
         (part_at plan.now.fields plan.now.query before (S.stream source.old)) }
     ensures sound { IfOk result (IsSoundUnder plan.now) }
     ensures one { IfOk result IsOfOnePiece }
-    ensures few { IfOk result (λ partial. before + partial.lines < 2 ^ 63) }
+    ensures few { IfOk result (λ partial. before + partial.lines < input_limit) }
 {
     next_header(
         alloc,

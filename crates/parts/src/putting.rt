@@ -3,10 +3,10 @@ ghost use Rattle.std.specs.Prelude.{◌≡◌, ◌++◌, IfOk, None};
 ghost use Rattle.tables.specs.Contents.{DiffersInGroups, groups_in};
 ghost use Rattle.parts.specs.Inside.Gathering.{CanHold, last_of};
 
-use group_states::GroupEntry;
 use query_plan::Plan;
 use std::alloc::AllocError;
 use tables::Partial;
+use values::GroupEntry;
 
 /// A result with the group that was read last, where there is one.
 pub(crate) fn put_last(

@@ -1,15 +1,17 @@
 //! The values of parts, read line by line.
 ghost use Rattle.std.specs.Io.KnownBytes.{IsAtEnd, Keeps};
-ghost use Rattle.std.specs.Prelude.{◌≡◌, ◌<◌, ◌≤◌, ◌+◌, ◌^◌, ◌↔◌, [], ℕ, true, false, IfOk, OnOk, Ok, length, drop, slice_range, slice_index};
+ghost use Rattle.std.specs.Prelude.{◌≡◌, ◌<◌, ◌≤◌, ◌+◌, ◌↔◌, [], ℕ, true, false, IfOk, OnOk, Ok, length, drop, slice_range, slice_index};
 ghost use Rattle.lines.specs.Clip.{clip_lines};
-ghost use Rattle.part_groups.specs.Reading.{reading_of};
-ghost use Rattle.part_text.specs.Reading.{Tells};
+ghost use Rattle.part_lines.specs.Faults.{fault_at_line};
+ghost use Rattle.part_lines.specs.Reading.{reading_of};
+ghost use Rattle.part_lines.specs.LineValues.{Tells};
 ghost use Rattle.parts.specs.Inside.Reader.{HasLine, HasTaken, IsAtLine, IsLineAt, left_at, refused_at};
+ghost use Rattle.semantics.specs.Limits.{input_limit};
 
 use lines::{ReadFault, Rounds};
 use memchr::memchr;
-use part_groups::{GroupFault, GroupFaultKind, GroupRefusal, Source};
-use part_text::{Scratch, ValueFault, read_value};
+use part_lines::{PartFault, PartRefusal, Scratch, ValueReader, read_value};
+use semantics::PartsFaultKind;
 use std::alloc::{AllocError, Global};
 use std::io::Read;
 use std::marker::Model;
@@ -94,7 +96,7 @@ impl<R: Read + Drop> PartReader<R> {
         ensures none { IsKnown self.old
             → IfOk result (λ found. found ≡ false ↔ ((stream_of self.old).left ≡ [])) }
         ensures line { self.new.line ≡ self.old.line }
-        ensures few { self.new.line < 2 ^ 63 }
+        ensures few { self.new.line < input_limit }
     {
         find_line(&mut self.rounds, &mut self.place)
     }
@@ -128,12 +130,12 @@ fn end_of_line(round: &[u8], place: usize) -> usize
     }
 }
 
-/// The value of a line.
-fn value_of(alloc: Global, scratch: &mut Scratch, line: &[u8]) -> Result<Value, ValueFault>
+/// The value of a line; `None` where it has none, or more bytes than a line may have.
+fn value_of(alloc: Global, scratch: &mut Scratch, line: &[u8]) -> Result<Option<Value>, AllocError>
     ensures { Tells result (reading_of line.now) }
 {
     if line.len() > MAX_LINE_LEN {
-        return Err(ValueFault::NotAValue);
+        return Ok(None);
     }
     read_value(alloc, scratch, line)
 }
@@ -144,7 +146,7 @@ fn take_line<R: Read + Drop>(
     scratch: &mut Scratch,
     rounds: &Rounds<R>,
     place: &mut usize,
-) -> Result<Value, ValueFault>
+) -> Result<Option<Value>, AllocError>
     requires line { HasLine rounds.now place.old }
     ensures at_line { (line : ℕ) → IsAtLine rounds.now place.old line
         → IsAtLine rounds.now place.new (line + 1) }
@@ -158,18 +160,18 @@ fn take_line<R: Read + Drop>(
     value_of(alloc, scratch, &round[begin..end])
 }
 
-impl<R: Read + Drop> Source for PartReader<R> {
+impl<R: Read + Drop> ValueReader for PartReader<R> {
     ghost use Rattle.parts.specs.Inside.Reader.{IsKnown, stream_of};
 
     ghost known = { λ reader. IsKnown reader };
 
     ghost stream = { λ reader. stream_of reader };
 
-    fn next(&mut self) -> Result<Value, GroupRefusal> {
+    fn next(&mut self) -> Result<Value, PartRefusal> {
         match find_line(&mut self.rounds, &mut self.place) {
             Ok(true) => {}
             Ok(false) => return Err(ends_at(self.line + 1)),
-            Err(_) => return Err(GroupRefusal::Reading),
+            Err(_) => return Err(PartRefusal::Reading),
         }
         let value = take_line(self.alloc, &mut self.scratch, &self.rounds, &mut self.place);
         self.line += 1;
@@ -182,26 +184,24 @@ impl<R: Read + Drop> Source for PartReader<R> {
 }
 
 /// The lines end where one of this number should be.
-fn ends_at(line: u64) -> GroupRefusal
-    ensures { result
-        ≡ GroupRefusal.Fault (record { line = line; kind = GroupFaultKind.EndsTooEarly }) }
+fn ends_at(line: u64) -> PartRefusal
+    ensures { result ≡ fault_at_line line PartsFaultKind.EndsTooEarly }
 {
-    GroupRefusal::Fault(GroupFault {
+    PartRefusal::Fault(PartFault {
         line,
-        kind: GroupFaultKind::EndsTooEarly,
+        kind: PartsFaultKind::EndsTooEarly,
     })
 }
 
-/// The value of the line of this number, or what is wrong with it.
-fn at_line(line: u64, value: Result<Value, ValueFault>) -> Result<Value, GroupRefusal>
+/// The value of the line of this number, or the fault that it has none.
+fn at_line(line: u64, value: Result<Option<Value>, AllocError>) -> Result<Value, PartRefusal>
     ensures { result ≡ refused_at line value }
 {
-    match value {
-        Ok(value) => Ok(value),
-        Err(ValueFault::NotAValue) => Err(GroupRefusal::Fault(GroupFault {
+    match value? {
+        Some(value) => Ok(value),
+        None => Err(PartRefusal::Fault(PartFault {
             line,
-            kind: GroupFaultKind::NotAValue,
+            kind: PartsFaultKind::NotAValue,
         })),
-        Err(ValueFault::OutOfMemory) => Err(GroupRefusal::OutOfMemory),
     }
 }

@@ -1,21 +1,20 @@
 //! The refused lines of a part.
 ghost use Rattle.std.specs.Prelude.{◌≡◌, ◌≤◌, All, IfOk, OnOk, length};
 ghost use Rattle.values.specs.Schema.{fields_of};
-ghost use Rattle.parts.specs.Inside.Faults.{Gives};
+ghost use Rattle.part_lines.specs.Reading.{Gives};
 ghost use Rattle.parts.specs.ReadingParts.{all_refused_at, refused_at, refused_line_at};
 
-use crate::fault::PartRefusal;
 use crate::line_faults::fault_named;
-use crate::texts::{check, fault, next_text};
+use crate::texts::next_text;
 use lines::LineFault;
-use part_groups::{Source, next_count_within};
+use part_lines::{PartRefusal, ValueReader, check, fault_at, next_count_within};
 use semantics::PartsFaultKind;
 use std::alloc::Global;
 use values::Column;
 
 /// The next refused line: its number, above the last one and not above that of the lines, and its fault.
 #[tactic(auto, unfolding(crate::specs::ReadingParts::refused_line_at))]
-fn next_refused_line<S: Source>(
+fn next_refused_line<S: ValueReader>(
     source: &mut S,
     columns: &[Column],
     lines: u64,
@@ -32,12 +31,12 @@ fn next_refused_line<S: Source>(
     let text = next_text(source)?;
     match fault_named(columns, text.as_str()) {
         Some(fault) => Ok((number, fault)),
-        None => Err(fault(source, PartsFaultKind::UnexpectedValue)),
+        None => Err(fault_at(source, PartsFaultKind::UnexpectedValue)),
     }
 }
 
 /// The next refused lines, as many as are asked for. No memory is taken for a count before its lines have come.
-fn next_refused_lines<S: Source>(
+fn next_refused_lines<S: ValueReader>(
     alloc: Global,
     source: &mut S,
     columns: &[Column],
@@ -63,7 +62,7 @@ fn next_refused_lines<S: Source>(
 
 /// The refused lines behind their number, which is not above that of the lines.
 #[tactic(auto, unfolding(crate::specs::ReadingParts::all_refused_at))]
-pub(crate) fn next_refused<S: Source>(
+pub(crate) fn next_refused<S: ValueReader>(
     alloc: Global,
     source: &mut S,
     columns: &[Column],

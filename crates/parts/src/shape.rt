@@ -1,10 +1,10 @@
 //! What a query asks of the groups of its parts.
 ghost use Rattle.std.specs.Prelude.{◌≡◌, IfOk, map};
 ghost use Rattle.values.specs.Schema.{fields_of};
-ghost use Rattle.part_groups.specs.Groups.{shape_of};
+ghost use Rattle.part_lines.specs.Groups.{shape_of};
 ghost use Rattle.parts.specs.ReadingParts.{rows_kind, shape_over, state_kind, type_at};
 
-use part_groups::{GroupShape, StateKind};
+use part_lines::{GroupShape, StateKind};
 use query_resolve::{ColumnFunction, FilteredFunction};
 use semantics::Kind;
 use std::alloc::{AllocError, Global};

@@ -9,7 +9,7 @@ use crate::columns::columns_text;
 use crate::header::MARK;
 use crate::line_faults::fault_text;
 use lines::LineFault;
-use part_text::push_value;
+use part_lines::push_value;
 use query_plan::Plan;
 use query_printer::print_tree;
 use std::alloc::{AllocError, Global};

@@ -1,10 +1,10 @@
 -- What is known of the hands once their workers came back.
-use Rattle.std.proofs.Common.{◌≡◌, ℕ, ◌+◌, ◌-◌, ◌^◌, ◌<◌, ◌≤◌, ◌⊎◌, List, map, min, sym, ap, ◌∙◌, subst, ⊎_elim, arith}
+use Rattle.std.proofs.Common.{◌≡◌, ℕ, ◌+◌, ◌-◌, ◌^◌, ◌<◌, ◌≤◌, ◌⊎◌, List, map, min, sym, ap, ◌∙◌, subst, ⊎_elim, sum_by, arith}
 use Rattle.pool.specs.Reduction.{Reduction, reduction_below}
 use Rattle.pool.specs.Dealing.{times}
 use Rattle.pool.specs.Inside.Steps.{UpTo}
 use Rattle.pool.specs.Inside.Combination.{combination_of}
-use Rattle.pool.specs.Totals.{sum_below, sum_list, once_below}
+use Rattle.pool.specs.Totals.{sum_below, once_below}
 use Rattle.pool.specs.Outcomes.{Decides}
 use Rattle.pool.specs.Lawful.{Lawful}
 use Rattle.pool.specs.Holding.{Holding}
@@ -34,11 +34,11 @@ module _ {M P : Type 0} {reduction : Reduction M} (laws : Lawful reduction) (mea
 
     pub fanned_above : (limit : ℕ) (outcome : Outcome P)
         → Decides meaning (combination_of reduction (map meaning (parts_of ws))) (reduction.weight (combination_of reduction (map meaning (parts_of ws)))) limit outcome
-        → IsAbove (reduction.weight (combination_of reduction (map meaning (parts_of vs))) + sum_list (λ j. reduction.weight (reduction.piece j)) (numbers_of_all hs)) limit outcome
+        → IsAbove (reduction.weight (combination_of reduction (map meaning (parts_of vs))) + sum_by (λ j. reduction.weight (reduction.piece j)) (numbers_of_all hs)) limit outcome
     fanned_above limit (Whole p) told = tt
     fanned_above limit Over told =
         let all = came_weight laws meaning vs ready ws did in
-        let joined_are = ap (λ l. sum_list (λ j. reduction.weight (reduction.piece j)) (numbers_of_all l)) same in
+        let joined_are = ap (λ l. sum_by (λ j. reduction.weight (reduction.piece j)) (numbers_of_all l)) same in
         omega (arith, all, joined_are, told)
 
     -- they have no piece twice, and each where all are spent
@@ -95,6 +95,6 @@ module _ {M P : Type 0} {reduction : Reduction M} (laws : Lawful reduction) (mea
       let same = ap (λ m. reduction.combine m (reduction_below reduction n)) is ∙ laws.unit_combined _ (total_fits laws n) in
       subst (λ (k : ℕ). Decides meaning (reduction_below reduction n) k limit outcome) none (subst (λ m. Decides meaning m (reduction.weight first + sum_below (λ i. reduction.weight (reduction.piece i)) n) limit outcome) same decided)
 
-  pub outweighs_alone : (limit : ℕ) (outcome : Outcome P) (hs : List Holding) → IsAbove (reduction.weight first + sum_list (λ i. reduction.weight (reduction.piece i)) (numbers_of_all hs)) limit outcome → Outweighs (λ i. reduction.weight (reduction.piece i)) limit outcome hs
+  pub outweighs_alone : (limit : ℕ) (outcome : Outcome P) (hs : List Holding) → IsAbove (reduction.weight first + sum_by (λ i. reduction.weight (reduction.piece i)) (numbers_of_all hs)) limit outcome → Outweighs (λ i. reduction.weight (reduction.piece i)) limit outcome hs
   outweighs_alone limit (Whole p) hs above = tt
   outweighs_alone limit Over hs above = let none = ap reduction.weight is ∙ laws.unit_weight in omega (arith, none, above)

@@ -1,10 +1,11 @@
 -- The pieces of a list, in whatever order they stand.
-use Rattle.std.proofs.Common.{◌≡◌, ◌≢◌, ℕ, zero, suc, ◌+◌, ◌<◌, ◌≤◌, true, ◌==◌, if◌then◌else◌, List, [], ◌∷◌, ◌++◌, sym, refl, ap, ◌∙◌, subst, ⊎_elim, arith, eq-eqb, ne_eqb}
+use Rattle.std.proofs.Common.{◌≡◌, ◌≢◌, ℕ, zero, suc, ◌+◌, ◌<◌, ◌≤◌, true, ◌==◌, if◌then◌else◌, List, [], ◌∷◌, ◌++◌, sym, refl, ap, ◌∙◌, subst, ⊎_elim, sum_by, arith, eq-eqb, ne_eqb}
 use Rattle.std.proofs.lemmas.Bool.{cases_eq}
+use Rattle.std.proofs.lemmas.List.Sums.{sum_by-append, sum_by-cons}
 use Rattle.pool.specs.Reduction.{Reduction, reduction_below}
 use Rattle.pool.specs.Lawful.{Lawful}
 use Rattle.pool.specs.Dealing.{times}
-use Rattle.pool.specs.Totals.{sum_below, sum_list, once_below}
+use Rattle.pool.specs.Totals.{sum_below, once_below}
 use Rattle.pool.specs.Combination.{reduction_from}
 use Rattle.pool.proofs.Machine.{times-append}
 
@@ -33,25 +34,20 @@ split_at x (y ∷ ys) h =
 pub times-middle : (z x : ℕ) (ys zs : List ℕ) → times z (ys ++ x ∷ zs) ≡ one_if x z + times z (ys ++ zs)
 times-middle z x ys zs = omega (arith, times-append z ys (x ∷ zs), times-append z ys zs)
 
-pub sum_list-middle : (f : ℕ → ℕ) (x : ℕ) (ys zs : List ℕ) → sum_list f (ys ++ x ∷ zs) ≡ f x + sum_list f (ys ++ zs)
-sum_list-middle f x [] zs = refl
-sum_list-middle f x (y ∷ ys) zs = omega (arith, sum_list-middle f x ys zs)
-
-pub sum_list-append : (f : ℕ → ℕ) (xs ys : List ℕ) → sum_list f (xs ++ ys) ≡ sum_list f xs + sum_list f ys
-sum_list-append f [] ys = omega arith
-sum_list-append f (x ∷ xs) ys = omega (arith, sum_list-append f xs ys)
+pub sum_by-middle : (f : ℕ → ℕ) (x : ℕ) (ys zs : List ℕ) → sum_by f (ys ++ x ∷ zs) ≡ f x + sum_by f (ys ++ zs)
+sum_by-middle f x ys zs = omega (arith, sum_by-append f ys (x ∷ zs), sum_by-cons f x zs, sum_by-append f ys zs)
 
 -- where none stands more than once and each is below n, the list comes to at most the whole
-pub sum_list-within : (f : ℕ → ℕ) (n : ℕ) (xs : List ℕ) → ((x : ℕ) → times x xs ≤ once_below x n) → sum_list f xs ≤ sum_below f n
-sum_list-within f zero [] h = omega arith
-sum_list-within f zero (x ∷ xs) h = let a = h x in let e = one_if_same x in absurd (omega arith)
-sum_list-within f (suc k) xs h =
+pub sum_by-within : (f : ℕ → ℕ) (n : ℕ) (xs : List ℕ) → ((x : ℕ) → times x xs ≤ once_below x n) → sum_by f xs ≤ sum_below f n
+sum_by-within f zero [] h = omega arith
+sum_by-within f zero (x ∷ xs) h = let a = h x in let e = one_if_same x in absurd (omega arith)
+sum_by-within f (suc k) xs h =
     ⊎_elim (λ (e : times k xs ≡ 0).
-    let i = sum_list-within f k xs (λ x. ⊎_elim (λ (s : k ≡ x). subst (λ y. times y xs ≤ once_below y k) s (omega arith)) (λ (d : k ≢ x). let a = h x in let o = none_if_other k x d in omega arith) (cases_eq k x)) in
+    let i = sum_by-within f k xs (λ x. ⊎_elim (λ (s : k ≡ x). subst (λ y. times y xs ≤ once_below y k) s (omega arith)) (λ (d : k ≢ x). let a = h x in let o = none_if_other k x d in omega arith) (cases_eq k x)) in
     omega arith)
     (λ (n : times k xs ≢ 0). let r = split_at k xs (omega arith) in
-    let i = sum_list-within f k (r.0 ++ r.1) (λ x. let a = h x in let t = ap (times x) r.2 ∙ times-middle x k r.0 r.1 in omega arith) in
-    let t = ap (sum_list f) r.2 ∙ sum_list-middle f k r.0 r.1 in
+    let i = sum_by-within f k (r.0 ++ r.1) (λ x. let a = h x in let t = ap (times x) r.2 ∙ times-middle x k r.0 r.1 in omega arith) in
+    let t = ap (sum_by f) r.2 ∙ sum_by-middle f k r.0 r.1 in
     omega arith)
     (cases_eq (times k xs) 0)
 
@@ -62,13 +58,13 @@ module _ {M : Type 0} {reduction : Reduction M} (laws : Lawful reduction) where
     onto_fits [] = its
     onto_fits (x ∷ xs) = laws.combined_fits _ _ (laws.piece_fits x) (onto_fits xs)
 
-    pub onto_load : (xs : List ℕ) → reduction.load (reduction_from reduction b xs) ≡ reduction.load b + sum_list (λ i. reduction.load (reduction.piece i)) xs
+    pub onto_load : (xs : List ℕ) → reduction.load (reduction_from reduction b xs) ≡ reduction.load b + sum_by (λ i. reduction.load (reduction.piece i)) xs
     onto_load [] = omega arith
-    onto_load (x ∷ xs) = let a = laws.load_adds _ _ (laws.piece_fits x) (onto_fits xs) in omega (arith, a, onto_load xs)
+    onto_load (x ∷ xs) = let a = laws.load_adds _ _ (laws.piece_fits x) (onto_fits xs) in omega (arith, a, onto_load xs, sum_by-cons (λ i. reduction.load (reduction.piece i)) x xs)
 
-    pub onto_weight : (xs : List ℕ) → reduction.weight (reduction_from reduction b xs) ≡ reduction.weight b + sum_list (λ i. reduction.weight (reduction.piece i)) xs
+    pub onto_weight : (xs : List ℕ) → reduction.weight (reduction_from reduction b xs) ≡ reduction.weight b + sum_by (λ i. reduction.weight (reduction.piece i)) xs
     onto_weight [] = omega arith
-    onto_weight (x ∷ xs) = let a = laws.weight_adds _ _ (laws.piece_fits x) (onto_fits xs) in omega (arith, a, onto_weight xs)
+    onto_weight (x ∷ xs) = let a = laws.weight_adds _ _ (laws.piece_fits x) (onto_fits xs) in omega (arith, a, onto_weight xs, sum_by-cons (λ i. reduction.weight (reduction.piece i)) x xs)
 
     pub onto-middle : (x : ℕ) (ys zs : List ℕ) → reduction_from reduction b (ys ++ x ∷ zs) ≡ reduction.combine (reduction_from reduction b (ys ++ zs)) (reduction.piece x)
     onto-middle x [] zs = laws.commutative _ _ (laws.piece_fits x) (onto_fits zs)

@@ -1,5 +1,5 @@
 -- The parts that hands begin with, and those that they come to.
-use Rattle.std.proofs.Common.{◌≡◌, ℕ, zero, suc, ◌+◌, ◌-◌, ◌^◌, ◌<◌, ◌≤◌, List, [], ◌∷◌, ◌++◌, length, map, min, All, sym, refl, ap, ◌∙◌, subst, arith}
+use Rattle.std.proofs.Common.{◌≡◌, ℕ, zero, suc, ◌+◌, ◌-◌, ◌^◌, ◌<◌, ◌≤◌, List, [], ◌∷◌, ◌++◌, length, map, min, All, sym, refl, ap, ◌∙◌, subst, sum_by, arith}
 use Rattle.std.proofs.lemmas.List.{length-map}
 use mathlib.Core.Option.{some}
 use lib.ListN.{get_elem?}
@@ -7,7 +7,7 @@ use Rattle.pool.specs.Reduction.{Reduction, reduction_below}
 use Rattle.pool.specs.Dealing.{times}
 use Rattle.pool.specs.Inside.Combination.{combination_of}
 use Rattle.pool.specs.Combination.{reduction_from}
-use Rattle.pool.specs.Totals.{once_below, sum_below, sum_list}
+use Rattle.pool.specs.Totals.{once_below, sum_below}
 use Rattle.pool.specs.Lawful.{Lawful}
 use Rattle.pool.specs.Holding.{Holding, IsHolding, numbers_of}
 use Rattle.pool.specs.Settled.{numbers_of_all, pieces_of}
@@ -16,7 +16,7 @@ use Rattle.pool.specs.Done.{Worker}
 use Rattle.pool.specs.Inside.Done.{hands_of, sums_of, parts_of}
 use Rattle.pool.specs.Inside.Fanned.{AreReady, AreUnderWay, beginning_at, DidAll, HaveResumed}
 use Rattle.pool.proofs.Fans.{all_at, all_map, did_all, did_under_way}
-use Rattle.pool.proofs.Gather.{gathered_fits, gathered_whole, onto-append, onto_apart, onto_fits, onto_load, onto_weight, sum_list-within, unit_after}
+use Rattle.pool.proofs.Gather.{gathered_fits, gathered_whole, onto-append, onto_apart, onto_fits, onto_load, onto_weight, sum_by-within, unit_after}
 use Rattle.pool.proofs.Works.{light_part, may_begin}
 
 -- each of a list has this
@@ -191,14 +191,14 @@ module _ {M : Type 0} {reduction : Reduction M} (laws : Lawful reduction) where
             all_each (λ m. reduction.fits m × (reduction.load m < 2 ^ 63)) meaning (parts_of ws)
             (light_parts (beginning_at reduction (map meaning (parts_of vs))) ws ready_begins came_under_way (λ i h at. (deal.1.2.1 i h at).5))
 
-        pub came_weight : reduction.weight (combination_of reduction (map meaning (parts_of ws))) ≡ reduction.weight (combination_of reduction (map meaning (parts_of vs))) + sum_list (λ j. reduction.weight (reduction.piece j)) (numbers_of_all (hands_of ws))
+        pub came_weight : reduction.weight (combination_of reduction (map meaning (parts_of ws))) ≡ reduction.weight (combination_of reduction (map meaning (parts_of vs))) + sum_by (λ j. reduction.weight (reduction.piece j)) (numbers_of_all (hands_of ws))
         came_weight =
             let a = ap reduction.weight came.1 ∙ laws.weight_adds _ _ begin_fits (gathered_fits laws (numbers_of_all (hands_of ws))) in
             let b = onto_weight laws reduction.unit laws.unit_fits (numbers_of_all (hands_of ws)) in
             let c = laws.unit_weight in
             omega (arith, a, b, c)
 
-        came_load : reduction.load (combination_of reduction (map meaning (parts_of ws))) ≡ reduction.load (combination_of reduction (map meaning (parts_of vs))) + sum_list (λ j. reduction.load (reduction.piece j)) (numbers_of_all (hands_of ws))
+        came_load : reduction.load (combination_of reduction (map meaning (parts_of ws))) ≡ reduction.load (combination_of reduction (map meaning (parts_of vs))) + sum_by (λ j. reduction.load (reduction.piece j)) (numbers_of_all (hands_of ws))
         came_load =
             let a = ap reduction.load came.1 ∙ laws.load_adds _ _ begin_fits (gathered_fits laws (numbers_of_all (hands_of ws))) in
             let b = onto_load laws reduction.unit laws.unit_fits (numbers_of_all (hands_of ws)) in
@@ -210,7 +210,7 @@ module _ {M : Type 0} {reduction : Reduction M} (laws : Lawful reduction) where
           pub came_room : reduction.load (combination_of reduction (map meaning (parts_of ws))) < 2 ^ 63
           came_room =
               let a = came_load in
-              let b = sum_list-within (λ j. reduction.load (reduction.piece j)) (pieces_of (hands_of vs)) (numbers_of_all (hands_of ws)) once in
+              let b = sum_by-within (λ j. reduction.load (reduction.piece j)) (pieces_of (hands_of vs)) (numbers_of_all (hands_of ws)) once in
               let c = ready.loads in
               omega (arith, a, b, c)
 
@@ -224,7 +224,7 @@ module _ {M : Type 0} {reduction : Reduction M} (laws : Lawful reduction) where
           pub came_within : reduction.weight (combination_of reduction (map meaning (parts_of ws))) ≤ reduction.weight (combination_of reduction (map meaning (parts_of vs))) + sum_below (λ j. reduction.weight (reduction.piece j)) (pieces_of (hands_of vs))
           came_within =
               let a = came_weight in
-              let b = sum_list-within (λ j. reduction.weight (reduction.piece j)) (pieces_of (hands_of vs)) (numbers_of_all (hands_of ws)) once in
+              let b = sum_by-within (λ j. reduction.weight (reduction.piece j)) (pieces_of (hands_of vs)) (numbers_of_all (hands_of ws)) once in
               omega (arith, a, b)
 
         -- where each piece was taken

@@ -7,7 +7,7 @@ use Rattle.pool.specs.Holding.{Holding, numbers_of}
 use Rattle.pool.specs.Settled.{AreAll, pieces_of}
 use Rattle.pool.specs.Fanned.{CameBack, Reported}
 use Rattle.pool.proofs.Assemblies.{at_low}
-use Rattle.pool.proofs.Gather.{sum_list-within}
+use Rattle.pool.proofs.Gather.{sum_by-within}
 use Rattle.pool.proofs.Works.{holding_within}
 use Rattle.pool.proofs.Fans.{all_at}
 
@@ -43,7 +43,7 @@ grown_within weights sum ss ks ts deal reported most all =
     let k = there ks i (omega (arith, low, a, b)) in
     let grown = reported.2 i s.0 k.0 t s.1 k.1 at in
     let is = deal.2.1 i k.0 k.1 in
-    let within = sum_list-within weights k.0.pieces (numbers_of k.0) (λ z. holding_within k.0 z is.5) in
+    let within = sum_by-within weights k.0.pieces (numbers_of k.0) (λ z. holding_within k.0 z is.5) in
     let same = ap (sum_below weights) is.2 in
     let old = all_at (λ s. sum s ≤ most) ss i s.0 s.1 all in
     omega (arith, grown, within, same, old))

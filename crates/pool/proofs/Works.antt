@@ -1,5 +1,6 @@
 -- The pieces of a hand, each at most once.
-use Rattle.std.proofs.Common.{◌≡◌, ◌≢◌, ℕ, zero, suc, ◌+◌, ◌-◌, ◌*◌, ◌/◌, ◌%◌, ◌^◌, ◌<◌, ◌≤◌, List, [], ◌∷◌, ◌++◌, length, set, sym, refl, ap, ◌∙◌, subst, ⊎_elim, append_assoc, arith, mul-le-mul_left, add-zero}
+use Rattle.std.proofs.Common.{◌≡◌, ◌≢◌, ℕ, zero, suc, ◌+◌, ◌-◌, ◌*◌, ◌/◌, ◌%◌, ◌^◌, ◌<◌, ◌≤◌, List, [], ◌∷◌, ◌++◌, length, set, sym, refl, ap, ◌∙◌, subst, ⊎_elim, append_assoc, sum_by, arith, mul-le-mul_left, add-zero}
+use Rattle.std.proofs.lemmas.List.Sums.{sum_by-cons}
 use Rattle.std.proofs.Math.Nat.{div-add-mod, mod-eq_of_lt}
 use Rattle.std.proofs.lemmas.Bool.{cases_eq, cases_lt}
 use mathlib.Core.Option.{some, some-injective, some-ne-none}
@@ -7,7 +8,7 @@ use lib.ListN.{get_elem?}
 use Rattle.pool.specs.Reduction.{Reduction}
 use Rattle.pool.specs.Dealing.{residue_class, times}
 use Rattle.pool.specs.Combination.{reduction_from}
-use Rattle.pool.specs.Totals.{sum_below, sum_list, once_below}
+use Rattle.pool.specs.Totals.{sum_below, once_below}
 use Rattle.pool.specs.Lawful.{Lawful}
 use Rattle.pool.specs.Seen.{Seen, list}
 use Rattle.pool.specs.Holding.{Holding, IsHolding, IsRound, Gained, lists_of, numbers_of}
@@ -19,7 +20,7 @@ use Rattle.pool.specs.declared.deal.Next.TheVariants.{Piece, Spent}
 use Rattle.pool.proofs.Nexts.{belongs_next}
 use Rattle.pool.proofs.Machine.{times-append, taken_within}
 use Rattle.pool.proofs.Deals.{dealt_times}
-use Rattle.pool.proofs.Gather.{sum_list-middle, sum_list-within, onto-middle, onto_fits, onto_load}
+use Rattle.pool.proofs.Gather.{sum_by-middle, sum_by-within, onto-middle, onto_fits, onto_load}
 
 -- no two of k numbers in a row are congruent modulo k
 mod_apart : (a d k : ℕ) → 0 < d → d < k → (a + d) % k ≢ a % k
@@ -77,11 +78,11 @@ holding_grown h k x = λ g. ⊎_elim
     (list h.own.seen ++ g.0, g.1, ap (λ l. list h.own.seen ++ l) g.2 ∙ sym (append_assoc (list h.own.seen) g.0 g.1), ap numbers_of o.5 ∙ ap (λ l. l ++ lists_of (set h.others o.0 o.2)) had ∙ ap (λ l. list h.own.seen ++ l) g.3 ∙ sym (append_assoc (list h.own.seen) g.0 (x ∷ g.1))))
     g
 
-pub grown_sum : (f : ℕ → ℕ) (old new : List ℕ) (x : ℕ) → Grown old x new → sum_list f new ≡ sum_list f old + f x
-grown_sum f old new x g = let b = ap (sum_list f) g.3 ∙ sum_list-middle f x g.0 g.1 in let d = ap (sum_list f) g.2 in omega arith
+pub grown_sum : (f : ℕ → ℕ) (old new : List ℕ) (x : ℕ) → Grown old x new → sum_by f new ≡ sum_by f old + f x
+grown_sum f old new x g = let b = ap (sum_by f) g.3 ∙ sum_by-middle f x g.0 g.1 in let d = ap (sum_by f) g.2 in omega arith
 
-grown_at_most : (f : ℕ → ℕ) (old new : List ℕ) (x n : ℕ) → Grown old x new → ((z : ℕ) → times z new ≤ once_below z n) → sum_list f old + f x ≤ sum_below f n
-grown_at_most f old new x n g within = let a = sum_list-within f n new within in let b = grown_sum f old new x g in omega arith
+grown_at_most : (f : ℕ → ℕ) (old new : List ℕ) (x n : ℕ) → Grown old x new → ((z : ℕ) → times z new ≤ once_below z n) → sum_by f old + f x ≤ sum_below f n
+grown_at_most f old new x n g within = let a = sum_by-within f n new within in let b = grown_sum f old new x g in omega arith
 
 pub follows_next : (h k : Holding) (answer : Next) → Answers h k answer → IsHolding k → Follows h k
 follows_next h k answer a i names pieces hands number b = belongs_next names pieces hands number h k answer a i b
@@ -90,11 +91,13 @@ pub gained_pieces : (h k : Holding) (x : ℕ) → Gained h x k → k.pieces ≡ 
 gained_pieces h k x = λ g. ⊎_elim (λ (o : _). ap (λ (u : Holding). u.pieces) o.2) (λ (o : _). ap (λ (u : Holding). u.pieces) o.2.5) g
 
 module _ {M : Type 0} {reduction : Reduction M} (laws : Lawful reduction) where
-  pub weights_at_most_loads : (xs : List ℕ) → sum_list (λ i. reduction.weight (reduction.piece i)) xs ≤ sum_list (λ i. reduction.load (reduction.piece i)) xs
+  pub weights_at_most_loads : (xs : List ℕ) → sum_by (λ i. reduction.weight (reduction.piece i)) xs ≤ sum_by (λ i. reduction.load (reduction.piece i)) xs
   weights_at_most_loads [] = omega arith
-  weights_at_most_loads (x ∷ xs) = omega (arith, laws.weight_at_most_load (reduction.piece x) (laws.piece_fits x), weights_at_most_loads xs)
+  weights_at_most_loads (x ∷ xs) =
+      let one = laws.weight_at_most_load (reduction.piece x) (laws.piece_fits x) in
+      omega (arith, one, weights_at_most_loads xs, sum_by-cons (λ i. reduction.weight (reduction.piece i)) x xs, sum_by-cons (λ i. reduction.load (reduction.piece i)) x xs)
 
-  turn_room : (old new : List ℕ) (x n s : ℕ) → Grown old x new → ((z : ℕ) → times z new ≤ once_below z n) → s + sum_below (λ i. reduction.load (reduction.piece i)) n < 2 ^ 63 + sum_list (λ i. reduction.weight (reduction.piece i)) old → s + reduction.load (reduction.piece x) < 2 ^ 63
+  turn_room : (old new : List ℕ) (x n s : ℕ) → Grown old x new → ((z : ℕ) → times z new ≤ once_below z n) → s + sum_below (λ i. reduction.load (reduction.piece i)) n < 2 ^ 63 + sum_by (λ i. reduction.weight (reduction.piece i)) old → s + reduction.load (reduction.piece x) < 2 ^ 63
   turn_room old new x n s g within room =
       let a = grown_at_most (λ i. reduction.load (reduction.piece i)) old new x n g within in
       let c = weights_at_most_loads old in
@@ -107,13 +110,13 @@ module _ {M : Type 0} {reduction : Reduction M} (laws : Lawful reduction) (begin
   -- a new hand, with what it begins with
   pub may_begin : (h : Holding) (s : ℕ) (m : M) → numbers_of h ≡ [] → m ≡ begin → reduction.load begin + sum_below (λ i. reduction.load (reduction.piece i)) h.pieces < 2 ^ 63 → sum_below (λ i. reduction.load (reduction.piece i)) h.pieces + s < 2 ^ 63 → MayGoOn begin reduction h s m
   may_begin h s m new first loads room =
-      let none = ap (sum_list (λ i. reduction.weight (reduction.piece i))) new in
+      let none = ap (sum_by (λ i. reduction.weight (reduction.piece i))) new in
       record { part = first ∙ ap (reduction_from reduction begin) (sym new); loads = loads; room = omega (arith, none, room) }
 
   -- the part of a worker that may go on has no great load
   pub light_part : (h : Holding) (s : ℕ) (m : M) → MayGoOn begin reduction h s m → IsHolding h → reduction.load m < 2 ^ 63
   light_part h s m may holding =
-      let a = sum_list-within (λ i. reduction.load (reduction.piece i)) h.pieces (numbers_of h) (λ z. holding_within h z holding) in
+      let a = sum_by-within (λ i. reduction.load (reduction.piece i)) h.pieces (numbers_of h) (λ z. holding_within h z holding) in
       let b = may.loads in
       let e = ap reduction.load may.part ∙ onto_load laws begin its (numbers_of h) in
       omega (arith, a, b, e)
@@ -159,7 +162,7 @@ module _ {M : Type 0} {reduction : Reduction M} (laws : Lawful reduction) (begin
   pub did_nothing : (h k : Holding) (s : ℕ) (m : M) → MayGoOn begin reduction h s m → Answers h k Spent → IsHolding k → Did begin reduction h s k s m
   did_nothing h k s m may answer holding =
       let same : numbers_of k ≡ numbers_of h = ap numbers_of answer.2 ∙ ap (λ l. l ++ lists_of h.others) answer.1.3 in
-      let c = ap (sum_list (λ i. reduction.weight (reduction.piece i))) same in
+      let c = ap (sum_by (λ i. reduction.weight (reduction.piece i))) same in
       record { follows = follows_next h k Spent answer holding; part = may.part ∙ ap (reduction_from reduction begin) (sym same); sum = omega (arith, c) }
 
 module _ {M : Type 0} (begin : M) (reduction : Reduction M) where

@@ -1,6 +1,7 @@
 -- What a fold over numbered pieces combines.
 use Rattle.std.specs.Prelude.{ℕ, ◌+◌, List}
-use Rattle.pool.specs.Totals.{total, sum_below, sum_list}
+use Rattle.std.specs.List.{sum_by}
+use Rattle.pool.specs.Totals.{total, sum_below}
 
 -- A reduction: which meanings parts have; what nothing at all comes to, and what two parts come to together; what
 -- each piece comes to; and of a part its weight, which a limit counts, and its load, which bounds the weight
@@ -42,4 +43,4 @@ load_onto r m n = r.load m + load_below r n
 
 -- what a part of this meaning and the pieces of a list weigh
 abbrev pub weight_with : {M : Type 0} → Reduction M → M → List ℕ → ℕ
-weight_with r m xs = r.weight m + sum_list (λ i. r.weight (r.piece i)) xs
+weight_with r m xs = r.weight m + sum_by (λ i. r.weight (r.piece i)) xs

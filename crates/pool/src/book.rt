@@ -1,5 +1,6 @@
 //! A number that many threads add to, and that each of them may read.
 ghost use Rattle.std.specs.Prelude.{◌≡◌, ℕ, ◌+◌, ◌-◌, ◌^◌, ◌<◌, ◌≤◌, min, IfOk, IfErr, vec_len, All, sum_by, length};
+ghost use Rattle.pool.specs.Limits.{load_limit, most_hands};
 
 use std::alloc::{AllocError, Global};
 use std::marker::Model;
@@ -26,12 +27,13 @@ pub struct Book<L: Ledger> {
 
 impl<L: Ledger> Model for Book<L> {
     ghost use Rattle.std.specs.Prelude.{◌≤◌};
+    ghost use Rattle.pool.specs.Limits.{most_hands};
 
     ghost Value = { Unit {0} };
 
     ghost view = { λ _. tt };
 
-    ghost invariant = { λ _. L.parts ≤ 64 };
+    ghost invariant = { λ _. L.parts ≤ most_hands };
 }
 
 /// What one worker reported to the book of the ledger L.
@@ -108,7 +110,7 @@ impl<L: Ledger> Book<L> {
         blank: Blank,
         hands: usize,
     ) -> Result<(Book<L>, Vec<Share<L>>), AllocError>
-        requires hands { (1 ≤ hands) × (hands ≤ 64) }
+        requires hands { (1 ≤ hands) × (hands ≤ most_hands) }
         requires name { blank.name ≡ L.name }
         requires parts { (blank.parts ≡ L.parts) × (L.parts ≡ hands) }
         ensures each { IfOk result (λ r. vec_len r.1 ≡ hands) }
@@ -135,7 +137,7 @@ impl<L: Ledger> Book<L> {
     ///
     /// Example: where the only share of a book has the sum 3, `book.report(rt, &mut share, 4)` answers 7.
     pub fn report<R: Wait>(&self, rt: &R, share: &mut Share<L>, weight: u64) -> u128
-        requires { share.old.sum + weight < 2 ^ 63 }
+        requires { share.old.sum + weight < load_limit }
         ensures sum { share.new.sum ≡ share.old.sum + weight }
         ensures least { share.new.sum ≤ result }
         ensures only { L.parts ≡ 1 → result ≡ share.new.sum }

@@ -13,6 +13,7 @@ ghost use Rattle.pool.specs.Rule.{AllBelow};
 ghost use Rattle.pool.specs.Inside.Steps.{Apart};
 ghost use Rattle.pool.specs.Steps.{giving_view, given_view};
 ghost use Rattle.crossbeam_deque.specs.Handles.{worker_deque, worker_flavor, worker_view, view as pass_view, IsPassOf};
+ghost use Rattle.pool.specs.Limits.{most_hands};
 
 use crate::protocol::{Dealing, GiveOpen, GiveShut, Lend, Seal, Stolen, Taken, Together};
 use crate::source::CachePad;
@@ -219,7 +220,7 @@ impl LocalQueue {
     /// The owner of the deque looks at what all other hands know of it: those before the owner in the deal, and those
     /// after it. One schedule goes on from that, and from what the owner knows.
     fn compare_with(&mut self, before: &mut [Hand], after: &mut [Hand])
-        requires few { length before.old + length after.old < 64 }
+        requires few { length before.old + length after.old < most_hands }
         requires count { self.old.made ≡ length before.old + length after.old + 1 }
         requires after { AllReach self.old.seen.deque self.old.seen.numbers
             (length before.old + length after.old) after.old }
@@ -250,7 +251,7 @@ impl Hand {
 
     /// As `LocalQueue::compare_with`, at this hand's deque.
     fn compare_with(&mut self, before: &mut [Hand], after: &mut [Hand])
-        requires few { length before.old + length after.old < 64 }
+        requires few { length before.old + length after.old < most_hands }
         requires count { self.old.own.made ≡ length before.old + length after.old + 1 }
         requires after { AllReach self.old.own.seen.deque self.old.own.seen.numbers
             (length before.old + length after.old) after.old }
@@ -375,7 +376,7 @@ impl StealHandle {
     #[cycle(compare)]
     fn lend(&mut self, worker: &mut Deque, others: &mut [Hand], more: &mut [Hand], place: usize)
         requires place { (self.old.place ≡ place) × (0 < place)
-            × (place ≡ length others.old + length more.old + 1) × (place < 64) }
+            × (place ≡ length others.old + length more.old + 1) × (place < most_hands) }
         requires deque { self.old.deque ≡ worker_deque worker.old }
         requires numbers { self.old.numbers ≡ (worker_view worker.old).numbers }
         requires owner { KnowsAbove place (worker_view worker.old) }
@@ -406,7 +407,7 @@ impl StealHandle {
 /// one a place lower, and those of `more` lower still.
 #[cycle(compare)]
 fn compare(worker: &mut Deque, hands: &mut [Hand], more: &mut [Hand], place: usize)
-    requires place { (place ≡ length hands.old + length more.old) × (place < 64) }
+    requires place { (place ≡ length hands.old + length more.old) × (place < most_hands) }
     requires owner { KnowsAbove place (worker_view worker.old) }
     requires hands { AllReach (worker_deque worker.old) (worker_view worker.old).numbers
         place hands.old }

@@ -9,20 +9,21 @@ ghost use Rattle.pool.specs.Assembly.{IsNewDeal};
 ghost use Rattle.std.specs.declared.alloc.Global.{Global};
 ghost use mathlib.Core.Option.{some};
 ghost use lib.ListN.{get_elem?};
+ghost use Rattle.pool.specs.Limits.{most_pieces, most_hands};
 
 use crate::deal::{Hand, StealHandle, first_hand};
 use crate::growing::put_last;
-use crate::source::{Filling, Source};
+use crate::source::{Filling, SeatDeque};
 use std::alloc::{AllocError, Global};
 use std::marker::Model;
 
 /// The seats that one hand has at the deques of the others.
 #[derive(Drop)]
-struct Round {
+struct Seats {
     seats: Vec<StealHandle>,
 }
 
-impl Model for Round {
+impl Model for Seats {
     ghost use Rattle.std.specs.Prelude.{List};
     ghost use Rattle.pool.specs.Seen.{Seen};
 
@@ -31,11 +32,11 @@ impl Model for Round {
     ghost view = { λ r. r.seats.items };
 }
 
-impl Round {
-    fn new(alloc: Global) -> Round
+impl Seats {
+    fn new(alloc: Global) -> Seats
         ensures { result ≡ [] }
     {
-        Round {
+        Seats {
             seats: Vec::new(alloc),
         }
     }
@@ -49,14 +50,14 @@ impl Round {
     fn into_seats(self) -> Vec<StealHandle>
         ensures { result.items ≡ self }
     {
-        let Round { seats } = self;
+        let Seats { seats } = self;
         seats
     }
 }
 
 /// Deques with no number.
 fn empty_deques(alloc: Global, pieces: u32, hands: usize) -> Result<Vec<Filling>, AllocError>
-    requires { (0 < hands) × (hands < 65) }
+    requires { (0 < hands) × (hands ≤ most_hands) }
     ensures count { IfOk result (λ v. vec_len v ≡ hands) }
     ensures empty { IfOk result (λ v. AreFilled hands 0 v.items) }
 {
@@ -85,8 +86,8 @@ fn fill_all(deques: &mut Vec<Filling>, pieces: u32) -> Result<(), AllocError>
 }
 
 /// Deques to which no number joins from now on, in the same order.
-fn seal_all(alloc: Global, deques: Vec<Filling>, hands: usize) -> Result<Vec<Source>, AllocError>
-    requires { (0 < hands) × (hands < 65) }
+fn seal_all(alloc: Global, deques: Vec<Filling>, hands: usize) -> Result<Vec<SeatDeque>, AllocError>
+    requires { (0 < hands) × (hands ≤ most_hands) }
     ensures count { IfOk result (λ v. vec_len v ≡ vec_len deques) }
     ensures offers { IfOk result (λ v. (n : ℕ) → AreFilled hands n deques.items
         → AreOffers hands n 1 v.items) }
@@ -100,20 +101,24 @@ fn seal_all(alloc: Global, deques: Vec<Filling>, hands: usize) -> Result<Vec<Sou
 }
 
 /// Rounds with no seat.
-fn empty_rounds(alloc: Global, hands: usize) -> Result<Vec<Round>, AllocError>
+fn empty_rounds(alloc: Global, hands: usize) -> Result<Vec<Seats>, AllocError>
     ensures count { IfOk result (λ v. vec_len v ≡ hands) }
     ensures empty { IfOk result (λ v. (k : ℕ) (ss : _) → get_elem? v.items k ≡ some ss → ss ≡ []) }
 {
     let mut rounds = Vec::new(alloc);
     for _k in 0..hands {
-        put_last(&mut rounds, Round::new(alloc))?;
+        put_last(&mut rounds, Seats::new(alloc))?;
     }
     Ok(rounds)
 }
 
 /// Each deque gives its seat at the place r, to the hand that stands so many places before it.
-fn seat_all(sources: &mut Vec<Source>, rounds: &mut Vec<Round>, r: usize) -> Result<(), AllocError>
-    requires place { (0 < r) × (r < vec_len sources.old) × (vec_len sources.old < 65) }
+fn seat_all(
+    sources: &mut Vec<SeatDeque>,
+    rounds: &mut Vec<Seats>,
+    r: usize,
+) -> Result<(), AllocError>
+    requires place { (0 < r) × (r < vec_len sources.old) × (vec_len sources.old ≤ most_hands) }
     requires at { (pieces : ℕ)
         × IsAt (vec_len sources.old) pieces r sources.old.items rounds.old.items }
     ensures count { OnOk result (vec_len sources.new ≡ vec_len sources.old) }
@@ -132,8 +137,8 @@ fn seat_all(sources: &mut Vec<Source>, rounds: &mut Vec<Round>, r: usize) -> Res
 }
 
 /// Each hand gets its seat at each deque.
-fn seat_everyone(sources: &mut Vec<Source>, rounds: &mut Vec<Round>) -> Result<(), AllocError>
-    requires count { (0 < vec_len sources.old) × (vec_len sources.old < 65) }
+fn seat_everyone(sources: &mut Vec<SeatDeque>, rounds: &mut Vec<Seats>) -> Result<(), AllocError>
+    requires count { (0 < vec_len sources.old) × (vec_len sources.old ≤ most_hands) }
     requires at { (pieces : ℕ)
         × IsAt (vec_len sources.old) pieces 1 sources.old.items rounds.old.items }
     ensures count { OnOk result (vec_len sources.new ≡ vec_len sources.old) }
@@ -152,10 +157,10 @@ fn seat_everyone(sources: &mut Vec<Source>, rounds: &mut Vec<Round>) -> Result<(
 fn make_hands(
     alloc: Global,
     pieces: u32,
-    sources: Vec<Source>,
-    rounds: Vec<Round>,
+    sources: Vec<SeatDeque>,
+    rounds: Vec<Seats>,
 ) -> Result<Vec<Hand>, AllocError>
-    requires count { (0 < vec_len sources) × (vec_len sources < 65) }
+    requires count { (0 < vec_len sources) × (vec_len sources ≤ most_hands) }
     requires at { IsAt (vec_len sources) pieces (vec_len sources) sources.items rounds.items }
     ensures { IfOk result (λ v. IsNewDeal pieces (vec_len sources) v.items) }
 {
@@ -206,8 +211,8 @@ impl Deal {
     ///
     /// `AllocError` where there is no memory for the deques and the hands.
     pub fn new(alloc: Global, pieces: u32, hands: usize) -> Result<Deal, AllocError>
-        requires pieces { pieces ≤ 1048576 }
-        requires hands { (1 ≤ hands) × (hands ≤ 64) }
+        requires pieces { pieces ≤ most_pieces }
+        requires hands { (1 ≤ hands) × (hands ≤ most_hands) }
         ensures { IfOk result (IsNewDeal pieces hands) }
     {
         let mut deques = empty_deques(alloc, pieces, hands)?;

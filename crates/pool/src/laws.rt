@@ -1,8 +1,9 @@
 //! What a pool works on, and what it answers.
-ghost use Rattle.std.specs.Prelude.{◌≡◌, ℕ, ◌+◌, ◌^◌, ◌<◌, IfOk};
+ghost use Rattle.std.specs.Prelude.{◌≡◌, ℕ, ◌+◌, ◌<◌, IfOk};
 ghost use Rattle.pool.specs.Lawful.{Lawful};
 ghost use Rattle.pool.specs.Reduction.{Reduction};
 ghost use Rattle.pool.specs.declared.laws.PoolFault.TheVariants.{OutOfMemory};
+ghost use Rattle.pool.specs.Limits.{load_limit};
 
 use std::alloc::AllocError;
 
@@ -89,7 +90,7 @@ pub trait Work {
         requires parts { (Self.reduction self.now).fits (Self.meaning a)
             × (Self.reduction self.now).fits (Self.meaning b) }
         requires room { (Self.reduction self.now).load (Self.meaning a)
-            + (Self.reduction self.now).load (Self.meaning b) < 2 ^ 63 }
+            + (Self.reduction self.now).load (Self.meaning b) < load_limit }
         ensures { IfOk result (λ p. Self.meaning p
             ≡ (Self.reduction self.now).combine (Self.meaning a) (Self.meaning b)) };
 
@@ -104,7 +105,7 @@ pub trait Work {
     fn add(&self, part: Self::Part, i: u32) -> Result<Self::Part, AllocError>
         requires part { (Self.reduction self.now).fits (Self.meaning part) }
         requires more { (Self.reduction self.now).load (Self.meaning part)
-            + (Self.reduction self.now).load ((Self.reduction self.now).piece i) < 2 ^ 63 }
+            + (Self.reduction self.now).load ((Self.reduction self.now).piece i) < load_limit }
         ensures { IfOk result (λ p. Self.meaning p
             ≡ (Self.reduction self.now).combine (Self.meaning part)
             ((Self.reduction self.now).piece i)) }
@@ -118,7 +119,7 @@ pub trait Work {
     /// Example: where a part stands for lines of a file, the number of those that are refused.
     fn weight(&self, p: &Self::Part) -> u64
         requires { (Self.reduction self.now).fits (Self.meaning p.now)
-            × ((Self.reduction self.now).load (Self.meaning p.now) < 2 ^ 63) }
+            × ((Self.reduction self.now).load (Self.meaning p.now) < load_limit) }
         ensures { result ≡ (Self.reduction self.now).weight (Self.meaning p.now) };
 
     /// The part's load. No weight is above it. It asks that the part is one of this work, of a load below 2^63.
@@ -126,7 +127,7 @@ pub trait Work {
     /// Example: where a part stands for lines of a file, the number of all of them.
     fn load(&self, p: &Self::Part) -> u64
         requires { (Self.reduction self.now).fits (Self.meaning p.now)
-            × ((Self.reduction self.now).load (Self.meaning p.now) < 2 ^ 63) }
+            × ((Self.reduction self.now).load (Self.meaning p.now) < load_limit) }
         ensures { result ≡ (Self.reduction self.now).load (Self.meaning p.now) };
 
     /// The meanings of a work keep the laws.

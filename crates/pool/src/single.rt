@@ -1,7 +1,8 @@
 //! All pieces on the calling thread.
-ghost use Rattle.std.specs.Prelude.{◌≡◌, ℕ, ◌+◌, ◌^◌, ◌<◌, ◌≤◌, MatchResult, IfOk};
+ghost use Rattle.std.specs.Prelude.{◌≡◌, ℕ, ◌+◌, ◌<◌, ◌≤◌, MatchResult, IfOk};
 ghost use Rattle.pool.specs.Reduction.{load_below};
 ghost use Rattle.pool.specs.Outcomes.{DecidesBelow};
+ghost use Rattle.pool.specs.Limits.{load_limit};
 
 use crate::laws::{Outcome, PoolFault, Work};
 
@@ -15,7 +16,7 @@ use crate::laws::{Outcome, PoolFault, Work};
 ///
 /// `OutOfMemory`, and no other.
 pub fn alone<W: Work>(work: &W, pieces: u32, limit: u64) -> Result<Outcome<W::Part>, PoolFault>
-    requires loads { load_below (W.reduction work.now) pieces < 2 ^ 63 }
+    requires loads { load_below (W.reduction work.now) pieces < load_limit }
     ensures { MatchResult result (DecidesBelow (W.reduction work.now) W.meaning pieces limit)
         (λ e. e ≡ PoolFault.OutOfMemory) }
 {

@@ -3,6 +3,7 @@ ghost use Rattle.std.specs.Prelude.{◌≡◌, ℕ, ◌+◌, ◌-◌, ◌<◌, �
 ghost use Rattle.pool.specs.Dealing.{residue_class};
 ghost use Rattle.pool.specs.Seen.{Seen, Owned};
 ghost use Rattle.pool.specs.Views.{Offer, next_seat, offer_with, owned_first};
+ghost use Rattle.pool.specs.Limits.{most_hands};
 
 use crate::deal::{Deque, LocalQueue, StealHandle};
 use crate::protocol::{Fill, Mark, Seal, Seat};
@@ -39,13 +40,13 @@ impl Model for Filling {
 }
 
 #[derive(Drop)]
-pub struct Source {
+pub struct SeatDeque {
     pad: CachePad,
     worker: Deque,
     hands: usize,
 }
 
-impl Model for Source {
+impl Model for SeatDeque {
     ghost use Rattle.std.specs.Prelude.{◌≡◌, ◌-◌, ◌+◌, ◌<◌, ◌≤◌, true, false, [], ◌∷◌};
     ghost use Rattle.pool.specs.Rule.{view_of};
     ghost use Rattle.pool.specs.Views.{Offer, offer_of};
@@ -85,8 +86,8 @@ impl Filling {
     }
 
     /// No number joins from now on. Behind the numbers lies an end mark for each hand.
-    pub fn seal(self, hands: usize) -> Result<Source, AllocError>
-        requires { (0 < hands) × (hands < 65) }
+    pub fn seal(self, hands: usize) -> Result<SeatDeque, AllocError>
+        requires { (0 < hands) × (hands ≤ most_hands) }
         ensures { IfOk result (λ s. (s.numbers ≡ self) × (s.made ≡ 1) × (s.hands ≡ hands)) }
     {
         let Filling { pad, mut worker } = self;
@@ -96,11 +97,11 @@ impl Filling {
             }
         }
         drop(worker.another::<Seal>());
-        Ok(Source { pad, worker, hands })
+        Ok(SeatDeque { pad, worker, hands })
     }
 }
 
-impl Source {
+impl SeatDeque {
     /// A seat for the next hand in the round.
     pub fn seat(&mut self) -> Result<StealHandle, AllocError>
         requires { self.old.made < self.old.hands }
@@ -123,7 +124,7 @@ impl Source {
         requires { self.made ≡ self.hands }
         ensures { result ≡ owned_first self }
     {
-        let Source {
+        let SeatDeque {
             pad,
             worker,
             hands: _,

@@ -14,13 +14,14 @@ ghost use Rattle.pool.specs.Fanned.{CameBack, Settles, Outweighs, IsAbove, Repor
 ghost use Rattle.pool.specs.Assembly.{IsNewDeal};
 ghost use mathlib.Core.Option.{some};
 ghost use lib.ListN.{get_elem?};
+ghost use Rattle.pool.specs.Limits.{load_limit, most_pieces, most_hands};
 
 use crate::book::{Book, Share};
 use crate::deal::{Hand, compare_all};
 use crate::dealing::Deal;
 use crate::growing::put_last;
 use crate::laws::{Outcome, PoolFault, Work};
-use crate::worker::{Crew, Done, go_on, start};
+use crate::worker::{Crew, Progress, go_on, start};
 use std::alloc::{AllocError, Global};
 use std::marker::{Brand, Send, Sync};
 use std::sync::Wait;
@@ -31,9 +32,9 @@ use std::thread::{Scope, Threads};
 /// What the others gave back, and behind it what one more worker did, unless one of them met a fault: that of the
 /// others comes first.
 fn add_done<P: Drop, L: Ledger>(
-    others: Result<Vec<Done<P, L>>, PoolFault>,
-    done: Result<Done<P, L>, AllocError>,
-) -> Result<Vec<Done<P, L>>, PoolFault>
+    others: Result<Vec<Progress<P, L>>, PoolFault>,
+    done: Result<Progress<P, L>, AllocError>,
+) -> Result<Vec<Progress<P, L>>, PoolFault>
     ensures more { IfOk result (λ all. IsOkAnd others (λ os. IsOkAnd done (λ d.
         all.items ≡ os.items ++ d ∷ []))) }
     ensures fault { IfErr result (λ e.
@@ -49,8 +50,8 @@ fn add_done<P: Drop, L: Ledger>(
 fn spread<'s, E, W: Work + Sync, L: Ledger + Send + Sync, R: Threads + Wait + Sync>(
     scope: &Scope<'s, E>,
     crew: &'s Crew<'s, W, L, R>,
-    ready: Vec<Done<W::Part, L>>,
-) -> Result<Vec<Done<W::Part, L>>, PoolFault>
+    ready: Vec<Progress<W::Part, L>>,
+) -> Result<Vec<Progress<W::Part, L>>, PoolFault>
     requires under_way { MayResumeAll (W.reduction crew.now.work.now) W.meaning ready.items }
     ensures did { IfOk result (λ all.
         HaveResumed (W.reduction crew.now.work.now) W.meaning ready.items all.items) }
@@ -75,8 +76,8 @@ fn spread<'s, E, W: Work + Sync, L: Ledger + Send + Sync, R: Threads + Wait + Sy
 /// As `spread`, with a scope of its own.
 fn spread_in_scope<W: Work + Sync, L: Ledger + Send + Sync, R: Threads + Wait + Sync>(
     crew: &Crew<'_, W, L, R>,
-    ready: Vec<Done<W::Part, L>>,
-) -> Result<Vec<Done<W::Part, L>>, PoolFault>
+    ready: Vec<Progress<W::Part, L>>,
+) -> Result<Vec<Progress<W::Part, L>>, PoolFault>
     requires under_way { MayResumeAll (W.reduction crew.now.work.now) W.meaning ready.items }
     ensures did { IfOk result (λ all.
         HaveResumed (W.reduction crew.now.work.now) W.meaning ready.items all.items) }
@@ -86,7 +87,7 @@ fn spread_in_scope<W: Work + Sync, L: Ledger + Send + Sync, R: Threads + Wait + 
     thread::scope(
         thread::scope_env(),
         crew.rt,
-        move |scope| -> Result<Vec<Done<W::Part, L>>, PoolFault>
+        move |scope| -> Result<Vec<Progress<W::Part, L>>, PoolFault>
             requires under_way { MayResumeAll (W.reduction crew.now.work.now) W.meaning
                 ready.items }
             ensures did { IfOk result (λ all.
@@ -100,8 +101,8 @@ fn spread_in_scope<W: Work + Sync, L: Ledger + Send + Sync, R: Threads + Wait + 
 /// Each worker goes on until its hand is spent, on the calling thread. No number of the book stops it.
 fn finish_all<W: Work, L: Ledger, R: Wait>(
     crew: &Crew<'_, W, L, R>,
-    gathered: Vec<Done<W::Part, L>>,
-) -> Result<Vec<Done<W::Part, L>>, PoolFault>
+    gathered: Vec<Progress<W::Part, L>>,
+) -> Result<Vec<Progress<W::Part, L>>, PoolFault>
     requires never { crew.now.stop ≡ 2 ^ 128 - 1 }
     requires under_way { MayResumeAll (W.reduction crew.now.work.now) W.meaning gathered.items }
     ensures did { IfOk result (λ all.
@@ -120,9 +121,9 @@ fn finish_all<W: Work, L: Ledger, R: Wait>(
 }
 
 /// What the parts of all workers weigh together, held at the greatest number.
-fn weigh<W: Work, L: Ledger>(work: &W, workers: &Vec<Done<W::Part, L>>) -> u64
+fn weigh<W: Work, L: Ledger>(work: &W, workers: &Vec<Progress<W::Part, L>>) -> u64
     requires { All (λ p. (W.reduction work.now).fits (W.meaning p)
-        × ((W.reduction work.now).load (W.meaning p) < 2 ^ 63)) (parts_of workers.now.items) }
+        × ((W.reduction work.now).load (W.meaning p) < load_limit)) (parts_of workers.now.items) }
     ensures { result ≡ min ((W.reduction work.now).weight (combination_of (W.reduction work.now)
         (map W.meaning (parts_of workers.now.items)))) (2 ^ 64 - 1) }
 {
@@ -137,7 +138,7 @@ fn weigh<W: Work, L: Ledger>(work: &W, workers: &Vec<Done<W::Part, L>>) -> u64
 fn combine_all<W: Work>(work: &W, parts: Vec<W::Part>) -> Result<W::Part, AllocError>
     requires parts { All (λ p. (W.reduction work.now).fits (W.meaning p)) parts.items }
     requires room { (W.reduction work.now).load
-        (combination_of (W.reduction work.now) (map W.meaning parts.items)) < 2 ^ 63 }
+        (combination_of (W.reduction work.now) (map W.meaning parts.items)) < load_limit }
     ensures { IfOk result (λ p. W.meaning p
         ≡ combination_of (W.reduction work.now) (map W.meaning parts.items)) }
 {
@@ -174,8 +175,8 @@ fn parts_from<W: Work>(
 
 /// The hands of a new deal of the pieces below a number.
 fn new_hands(alloc: Global, pieces: u32, hands: usize) -> Result<Vec<Hand>, AllocError>
-    requires pieces { pieces ≤ 1048576 }
-    requires hands { (1 ≤ hands) × (hands ≤ 64) }
+    requires pieces { pieces ≤ most_pieces }
+    requires hands { (1 ≤ hands) × (hands ≤ most_hands) }
     ensures deal { IfOk result (λ hs. IsNewDeal (pieces_of hs.items) (vec_len hs) hs.items) }
     ensures count { IfOk result (λ hs. vec_len hs ≡ hands) }
     ensures pieces { IfOk result (λ hs. pieces_of hs.items ≡ pieces) }
@@ -190,7 +191,7 @@ fn workers_from<P: Drop, L: Ledger>(
     hands: Vec<Hand>,
     shares: Vec<Share<L>>,
     parts: Vec<P>,
-) -> Result<Vec<Done<P, L>>, AllocError>
+) -> Result<Vec<Progress<P, L>>, AllocError>
     requires shares { vec_len shares ≡ vec_len hands }
     requires parts { vec_len parts ≡ vec_len hands }
     ensures hands { IfOk result (λ ws. hands_of ws.items ≡ hands.items) }
@@ -207,7 +208,7 @@ fn workers_from<P: Drop, L: Ledger>(
         let Some(part) = rest_parts.next() else {
             unreachable!();
         };
-        put_last(&mut workers, Done { hand, share, part })?;
+        put_last(&mut workers, Progress { hand, share, part })?;
     }
     Ok(workers)
 }
@@ -215,7 +216,7 @@ fn workers_from<P: Drop, L: Ledger>(
 /// The hands, the shares and the parts of these workers, each in their order.
 fn into_lists<P: Drop, L: Ledger>(
     alloc: Global,
-    workers: Vec<Done<P, L>>,
+    workers: Vec<Progress<P, L>>,
 ) -> Result<(Vec<Hand>, Vec<Share<L>>, Vec<P>), AllocError>
     ensures hands { IfOk result (λ r. r.0.items ≡ hands_of workers.items) }
     ensures sums { IfOk result (λ r. map (λ s. s.sum) r.1.items ≡ sums_of workers.items) }
@@ -225,7 +226,7 @@ fn into_lists<P: Drop, L: Ledger>(
     let mut shares = Vec::new(alloc);
     let mut parts = Vec::new(alloc);
     for worker in workers {
-        let Done { hand, share, part } = worker;
+        let Progress { hand, share, part } = worker;
         put_last(&mut hands, hand)?;
         put_last(&mut shares, share)?;
         put_last(&mut parts, part)?;
@@ -250,8 +251,8 @@ fn keep_apart(hands: &mut Vec<Hand>)
 fn work_through<W: Work + Sync, L: Ledger + Send + Sync, R: Threads + Wait + Sync>(
     crew: Crew<'_, W, L, R>,
     limit: u64,
-    ready: Vec<Done<W::Part, L>>,
-) -> Result<Vec<Done<W::Part, L>>, PoolFault>
+    ready: Vec<Progress<W::Part, L>>,
+) -> Result<Vec<Progress<W::Part, L>>, PoolFault>
     requires ready { AreReady (W.reduction crew.work.now) W.meaning ready.items }
     ensures did { IfOk result (λ all.
         HaveBegunAndResumed (W.reduction crew.entry.work.now) W.meaning ready.items all.items) }
@@ -281,7 +282,7 @@ fn conclude<W: Work>(
         (combination_of (W.reduction work.now) (map W.meaning parts.items)) }
     requires parts { All (λ p. (W.reduction work.now).fits (W.meaning p)) parts.items }
     requires room { (W.reduction work.now).load
-        (combination_of (W.reduction work.now) (map W.meaning parts.items)) < 2 ^ 63 }
+        (combination_of (W.reduction work.now) (map W.meaning parts.items)) < load_limit }
     ensures { IfOk result (DecidesOf (W.reduction work.now) W.meaning
         (combination_of (W.reduction work.now) (map W.meaning parts.items)) limit) }
 {
@@ -297,7 +298,7 @@ fn conclude<W: Work>(
 fn fan_ready<W: Work + Sync, L: Ledger + Send + Sync, R: Threads + Wait + Sync>(
     crew: Crew<'_, W, L, R>,
     limit: u64,
-    ready: Vec<Done<W::Part, L>>,
+    ready: Vec<Progress<W::Part, L>>,
 ) -> Result<(Outcome<W::Part>, Vec<Hand>, Vec<Share<L>>), PoolFault>
     requires ready { AreReady (W.reduction crew.work.now) W.meaning ready.items }
     ensures decided { IfOk result (λ r. DecidesOnto (W.reduction crew.entry.work.now) W.meaning
@@ -330,48 +331,37 @@ fn fan_ready<W: Work + Sync, L: Ledger + Send + Sync, R: Threads + Wait + Sync>(
 /// Does all pieces of a new deal onto a part that was made before: hand 0 on the calling thread, which goes on with
 /// that part, each other hand on a thread of its own.
 fn fan_onto<W: Work + Sync, L: Ledger + Send + Sync, R: Threads + Wait + Sync>(
-    rt: &R,
-    alloc: Global,
-    work: &W,
+    crew: Crew<'_, W, L, R>,
     part: W::Part,
     hands: Vec<Hand>,
     limit: u64,
-    book: &Book<L>,
-    stop: u128,
     shares: Vec<Share<L>>,
 ) -> Result<(Outcome<W::Part>, Vec<Hand>, Vec<Share<L>>), PoolFault>
-    requires part { (W.reduction work.now).fits (W.meaning part) }
+    requires part { (W.reduction crew.work.now).fits (W.meaning part) }
     requires deal { IsNewDeal (pieces_of hands.items) (vec_len hands) hands.items }
     requires count { vec_len shares ≡ vec_len hands }
-    requires loads { load_onto (W.reduction work.now) (W.meaning part) (pieces_of hands.items)
-        < 2 ^ 63 }
+    requires loads { load_onto (W.reduction crew.work.now) (W.meaning part) (pieces_of hands.items)
+        < load_limit }
     requires room { (i : ℕ) (s : _) → get_elem? shares.items i ≡ some s
-        → load_below (W.reduction work.now) (pieces_of hands.items) + s.sum < 2 ^ 63 }
-    ensures decided { IfOk result (λ r. DecidesOnto (W.reduction work.now) W.meaning
+        → load_below (W.reduction crew.work.now) (pieces_of hands.items) + s.sum < load_limit }
+    ensures decided { IfOk result (λ r. DecidesOnto (W.reduction crew.entry.work.now) W.meaning
         (W.meaning part) (pieces_of hands.items) limit r.0) }
     ensures deal { IfOk result (λ r. AreAll r.1.items
         × (pieces_of r.1.items ≡ pieces_of hands.items)) }
     ensures back { IfOk result (λ r.
-        CameBack (piece_weight (W.reduction work.now)) (λ s. s.sum)
+        CameBack (piece_weight (W.reduction crew.entry.work.now)) (λ s. s.sum)
         hands.items shares.items r.1.items r.2.items) }
     ensures run { IfOk result (λ r. AreRun r.1.items) }
     ensures once { IfOk result (λ r. HaveNoneTwice r.1.items) }
     ensures settled { IfOk result (λ r. Settles r.0 r.1.items) }
     ensures over { IfOk result (λ r.
-        IsAbove (weight_with (W.reduction work.now) (W.meaning part) (numbers_of_all r.1.items))
-        limit r.0) }
+        IsAbove (weight_with (W.reduction crew.entry.work.now) (W.meaning part)
+        (numbers_of_all r.1.items)) limit r.0) }
     ensures alone { (vec_len hands ≡ 1) ⊎ (pieces_of hands.items ≡ 0)
         → IfErr result (λ e. e ≡ PoolFault.OutOfMemory) }
 {
-    let parts = parts_from(alloc, work, part, hands.len())?;
-    let ready = workers_from(alloc, hands, shares, parts)?;
-    let crew = Crew {
-        rt,
-        alloc,
-        work,
-        book,
-        stop,
-    };
+    let parts = parts_from(crew.alloc, crew.work, part, hands.len())?;
+    let ready = workers_from(crew.alloc, hands, shares, parts)?;
     fan_ready(crew, limit, ready)
 }
 
@@ -404,9 +394,9 @@ pub fn fan_on<W: Work + Sync, L: Ledger + Send + Sync, R: Threads + Wait + Sync>
 ) -> Result<(Outcome<W::Part>, Vec<Hand>, Vec<Share<L>>), PoolFault>
     requires deal { IsNewDeal (pieces_of hands.items) (vec_len hands) hands.items }
     requires count { vec_len shares ≡ vec_len hands }
-    requires loads { load_below (W.reduction work.now) (pieces_of hands.items) < 2 ^ 63 }
+    requires loads { load_below (W.reduction work.now) (pieces_of hands.items) < load_limit }
     requires room { (i : ℕ) (s : _) → get_elem? shares.items i ≡ some s
-        → load_below (W.reduction work.now) (pieces_of hands.items) + s.sum < 2 ^ 63 }
+        → load_below (W.reduction work.now) (pieces_of hands.items) + s.sum < load_limit }
     ensures decided { IfOk result (λ r. DecidesBelow (W.reduction work.now) W.meaning
         (pieces_of hands.items) limit r.0) }
     ensures deal { IfOk result (λ r. AreAll r.1.items
@@ -423,7 +413,14 @@ pub fn fan_on<W: Work + Sync, L: Ledger + Send + Sync, R: Threads + Wait + Sync>
         → IfErr result (λ e. e ≡ PoolFault.OutOfMemory) }
 {
     let unit = work.unit()?;
-    fan_onto(rt, alloc, work, unit, hands, limit, book, stop, shares)
+    let crew = Crew {
+        rt,
+        alloc,
+        work,
+        book,
+        stop,
+    };
+    fan_onto(crew, unit, hands, limit, shares)
 }
 
 /// Does the pieces below a number, at most 1,048,576, onto a part that was made before, by the hands of a new deal,
@@ -431,7 +428,7 @@ pub fn fan_on<W: Work + Sync, L: Ledger + Send + Sync, R: Threads + Wait + Sync>
 /// and goes on with that part, each other hand on a thread of its own. So one book serves several deals, one after
 /// the other. With one hand, or no piece, no thread is started.
 ///
-/// A worker may stop once the book's number is above `stop`. The answer is the part and all pieces, combined, or
+/// A worker may stop once the book's number is above `limit`. The answer is the part and all pieces, combined, or
 /// `Over` where the weight of the part and those of the pieces add up to more than `limit`; the hands of the deal;
 /// and the shares. Hands and shares come in their order, and each share has grown by the weights of the pieces in its
 /// hand's list. No piece is in two lists, and after `Whole` each is in one. What the part weighs is not reported to
@@ -442,9 +439,8 @@ pub fn fan_on<W: Work + Sync, L: Ledger + Send + Sync, R: Threads + Wait + Sync>
 /// it answers.
 ///
 /// Example: where a part is a number, which is its weight too, parts are added, and each of 100 pieces is 1,
-/// `fan_deal_onto(rt, alloc, &work, 5, 100, 105, &book, 105, shares)` answers `Whole(105)`, the hands, which are
-/// settled, and the shares; `fan_deal_onto(rt, alloc, &work, 5, 100, 104, &book, 105, shares)` answers `Over`, hands
-/// and shares.
+/// `fan_deal_onto(rt, alloc, &work, 5, 100, 105, &book, shares)` answers `Whole(105)`, the hands, which are settled, and
+/// the shares; `fan_deal_onto(rt, alloc, &work, 5, 100, 104, &book, shares)` answers `Over`, hands and shares.
 ///
 /// # Errors
 ///
@@ -458,14 +454,13 @@ pub fn fan_deal_onto<W: Work + Sync, L: Ledger + Send + Sync, R: Threads + Wait 
     pieces: u32,
     limit: u64,
     book: &Book<L>,
-    stop: u128,
     shares: Vec<Share<L>>,
 ) -> Result<(Outcome<W::Part>, Vec<Hand>, Vec<Share<L>>), PoolFault>
     requires part { (W.reduction work.now).fits (W.meaning part) }
-    requires pieces { pieces ≤ 1048576 }
-    requires hands { (1 ≤ vec_len shares) × (vec_len shares ≤ 64) }
-    requires loads { load_onto (W.reduction work.now) (W.meaning part) pieces < 2 ^ 63 }
-    requires room { All (λ s. load_below (W.reduction work.now) pieces + s.sum < 2 ^ 63)
+    requires pieces { pieces ≤ most_pieces }
+    requires hands { (1 ≤ vec_len shares) × (vec_len shares ≤ most_hands) }
+    requires loads { load_onto (W.reduction work.now) (W.meaning part) pieces < load_limit }
+    requires room { All (λ s. load_below (W.reduction work.now) pieces + s.sum < load_limit)
         shares.items }
     ensures decided { IfOk result (λ r. DecidesOnto (W.reduction work.now) W.meaning
         (W.meaning part) pieces limit r.0) }
@@ -476,13 +471,20 @@ pub fn fan_deal_onto<W: Work + Sync, L: Ledger + Send + Sync, R: Threads + Wait 
     ensures once { IfOk result (λ r. HaveNoneTwice r.1.items) }
     ensures settled { IfOk result (λ r. Settles r.0 r.1.items) }
     ensures over { IfOk result (λ r.
-        IsAbove (weight_with (W.reduction work.now) (W.meaning part) (numbers_of_all r.1.items))
-        limit r.0) }
+        IsAbove (weight_with (W.reduction work.now) (W.meaning part)
+        (numbers_of_all r.1.items)) limit r.0) }
     ensures alone { (vec_len shares ≡ 1) ⊎ (pieces ≡ 0)
         → IfErr result (λ e. e ≡ PoolFault.OutOfMemory) }
 {
     let hands = new_hands(alloc, pieces, shares.len())?;
-    fan_onto(rt, alloc, work, part, hands, limit, book, stop, shares)
+    let crew = Crew {
+        rt,
+        alloc,
+        work,
+        book,
+        stop: limit as u128,
+    };
+    fan_onto(crew, part, hands, limit, shares)
 }
 
 /// `fan_out` with a book of the ledger L.
@@ -495,9 +497,9 @@ fn with_book<L: Ledger + Send + Sync, W: Work + Sync, R: Threads + Wait + Sync>(
     limit: u64,
     blank: Blank,
 ) -> Result<Outcome<W::Part>, PoolFault>
-    requires pieces { pieces ≤ 1048576 }
-    requires hands { (1 ≤ hands) × (hands ≤ 64) }
-    requires loads { load_below (W.reduction work.now) pieces < 2 ^ 63 }
+    requires pieces { pieces ≤ most_pieces }
+    requires hands { (1 ≤ hands) × (hands ≤ most_hands) }
+    requires loads { load_below (W.reduction work.now) pieces < load_limit }
     requires name { blank.name ≡ L.name }
     requires parts { (blank.parts ≡ L.parts) × (L.parts ≡ hands) }
     ensures decided { IfOk result (DecidesBelow (W.reduction work.now) W.meaning pieces limit) }
@@ -505,17 +507,7 @@ fn with_book<L: Ledger + Send + Sync, W: Work + Sync, R: Threads + Wait + Sync>(
 {
     let unit = work.unit()?;
     let (book, shares) = Book::<L>::new(alloc, blank, hands)?;
-    let (outcome, _, shares) = fan_deal_onto(
-        rt,
-        alloc,
-        work,
-        unit,
-        pieces,
-        limit,
-        &book,
-        limit as u128,
-        shares,
-    )?;
+    let (outcome, _, shares) = fan_deal_onto(rt, alloc, work, unit, pieces, limit, &book, shares)?;
     book.close(shares);
     Ok(outcome)
 }
@@ -540,9 +532,9 @@ pub fn fan_out<W: Work + Sync, R: Threads + Wait + Sync>(
     hands: usize,
     limit: u64,
 ) -> Result<Outcome<W::Part>, PoolFault>
-    requires pieces { pieces ≤ 1048576 }
-    requires hands { (1 ≤ hands) × (hands ≤ 64) }
-    requires loads { load_below (W.reduction work.now) pieces < 2 ^ 63 }
+    requires pieces { pieces ≤ most_pieces }
+    requires hands { (1 ≤ hands) × (hands ≤ most_hands) }
+    requires loads { load_below (W.reduction work.now) pieces < load_limit }
     ensures decided { IfOk result (DecidesBelow (W.reduction work.now) W.meaning pieces limit) }
     ensures alone { (hands ≡ 1) ⊎ (pieces ≡ 0) → IfErr result (λ e. e ≡ PoolFault.OutOfMemory) }
 {

@@ -3,6 +3,7 @@ ghost use Rattle.std.specs.Prelude.{◌≡◌, ℕ, ◌+◌, ◌^◌, ◌<◌, �
 ghost use Rattle.pool.specs.Done.{HasResumed, MayResume};
 ghost use Rattle.pool.specs.Inside.Reduction.{piece_load};
 ghost use Rattle.pool.specs.Reduction.{piece_weight};
+ghost use Rattle.pool.specs.Limits.{load_limit};
 
 use crate::book::{Book, Share};
 use crate::deal::{Hand, Next};
@@ -14,26 +15,31 @@ use std::sync::Wait;
 use std::sync::ledger::Ledger;
 use std::thread::{Promise, PromisedHandle, Scope};
 
-/// What all workers of a deal share. A worker may stop once the book's number is above `stop`.
+/// What all workers of a deal share.
 #[derive(Drop)]
 pub struct Crew<'a, W, L: Ledger, R> {
+    /// What starts the threads.
     pub rt: &'a R,
+    /// Where memory comes from.
     pub alloc: Global,
+    /// The work.
     pub work: &'a W,
+    /// The book to which each worker reports its weights.
     pub book: &'a Book<L>,
+    /// A worker may stop once the book's number is above this.
     pub stop: u128,
 }
 
 /// What a worker has: its hand, its share, and a part: what it began with and the pieces in the hand's list, combined.
 /// Contracts see the share as its sum.
 #[derive(Drop)]
-pub struct Done<P, L: Ledger> {
+pub struct Progress<P, L: Ledger> {
     pub hand: Hand,
     pub share: Share<L>,
     pub part: P,
 }
 
-impl<P, L: Ledger> Model for Done<P, L> {
+impl<P, L: Ledger> Model for Progress<P, L> {
     ghost use Rattle.pool.specs.Done.{Worker};
 
     ghost Value = { Worker P };
@@ -41,7 +47,7 @@ impl<P, L: Ledger> Model for Done<P, L> {
     ghost view = { λ d. record { hand = d.hand; sum = d.share.sum; part = d.part } };
 }
 
-impl<P, L: Ledger> Done<P, L> {
+impl<P, L: Ledger> Progress<P, L> {
     /// How many pieces the deal of its hand has.
     pub fn pieces(&self) -> u32
         ensures { result ≡ self.now.hand.pieces }
@@ -53,7 +59,7 @@ impl<P, L: Ledger> Done<P, L> {
 /// Where a worker could go on with what it was handed, it gives back what it did, as `go_on` says.
 pub struct Promised<'a, W, P, L: Ledger> {
     pub work: &'a W,
-    pub before: Snapshot<Done<P, L>>,
+    pub before: Snapshot<Progress<P, L>>,
 }
 
 impl<'a, W, P, L: Ledger> Drop for Promised<'a, W, P, L> {
@@ -63,7 +69,7 @@ impl<'a, W, P, L: Ledger> Drop for Promised<'a, W, P, L> {
     }
 }
 
-impl<'a, W: Work, L: Ledger> Promise<Result<Done<W::Part, L>, AllocError>>
+impl<'a, W: Work, L: Ledger> Promise<Result<Progress<W::Part, L>, AllocError>>
     for Promised<'a, W, W::Part, L> {
     ghost kept_by = { λ p r. IfOk r (λ d. HasResumed (W.reduction p.work.now)
         p.before.value.hand p.before.value.sum (W.meaning p.before.value.part)
@@ -79,8 +85,8 @@ fn add_piece<W: Work, L: Ledger, R: Wait>(
 ) -> Result<(W::Part, u128), AllocError>
     requires fits { (W.reduction crew.now.work.now).fits (W.meaning part) }
     requires room { (W.reduction crew.now.work.now).load (W.meaning part)
-        + piece_load (W.reduction crew.now.work.now) i < 2 ^ 63 }
-    requires sum { share.old.sum + piece_load (W.reduction crew.now.work.now) i < 2 ^ 63 }
+        + piece_load (W.reduction crew.now.work.now) i < load_limit }
+    requires sum { share.old.sum + piece_load (W.reduction crew.now.work.now) i < load_limit }
     ensures part { IfOk result (λ r. W.meaning r.0
         ≡ (W.reduction crew.now.work.now).combine (W.meaning part)
         ((W.reduction crew.now.work.now).piece i)) }
@@ -127,26 +133,26 @@ fn take_pieces<W: Work, L: Ledger, R: Wait>(
 /// Goes on as `take_pieces`, with the part that was made so far.
 pub fn go_on<W: Work, L: Ledger, R: Wait>(
     crew: &Crew<'_, W, L, R>,
-    done: Done<W::Part, L>,
-) -> Result<Done<W::Part, L>, AllocError>
+    done: Progress<W::Part, L>,
+) -> Result<Progress<W::Part, L>, AllocError>
     requires { MayResume (W.reduction crew.now.work.now) done.hand done.sum
         (W.meaning done.part) }
     ensures did { IfOk result (λ d. HasResumed (W.reduction crew.now.work.now)
         done.hand done.sum (W.meaning done.part) d.hand d.sum (W.meaning d.part)) }
     ensures spent { crew.now.stop ≡ 2 ^ 128 - 1 → IfOk result (λ d. d.hand.spent ≡ true) }
 {
-    let Done {
+    let Progress {
         mut hand,
         mut share,
         part,
     } = done;
     let part = take_pieces(crew, &mut hand, &mut share, part)?;
-    Ok(Done { hand, share, part })
+    Ok(Progress { hand, share, part })
 }
 
 /// A worker on a thread of its own.
 pub type Running<'s, W, P, L> = PromisedHandle<
-    Result<Done<P, L>, AllocError>,
+    Result<Progress<P, L>, AllocError>,
     Promised<'s, W, P, L>,
 >;
 
@@ -154,7 +160,7 @@ pub type Running<'s, W, P, L> = PromisedHandle<
 pub fn start<'s, E, W: Work + Sync, L: Ledger + Send + Sync, R: Wait + Sync>(
     scope: &Scope<'s, E>,
     crew: &'s Crew<'s, W, L, R>,
-    done: Done<W::Part, L>,
+    done: Progress<W::Part, L>,
 ) -> Option<Running<'s, W, W::Part, L>>
     requires { MayResume (W.reduction crew.now.work.now) done.hand done.sum
         (W.meaning done.part) }
@@ -165,7 +171,7 @@ pub fn start<'s, E, W: Work + Sync, L: Ledger + Send + Sync, R: Wait + Sync>(
         work: crew.work,
         before: Snapshot::of(&done),
     };
-    let run = move || -> Result<Done<W::Part, L>, AllocError>
+    let run = move || -> Result<Progress<W::Part, L>, AllocError>
         requires { MayResume (W.reduction crew.now.work.now) done.hand done.sum
             (W.meaning done.part) }
         ensures { IfOk result (λ d. HasResumed (W.reduction crew.entry.now.work.now)

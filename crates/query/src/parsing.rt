@@ -4,6 +4,7 @@ ghost use Rattle.std.specs.Prelude.{◌≡◌, ◌<◌, ◌≤◌, ◌-◌, ◌�
 ghost use Rattle.semantics.specs.declared.query_fault.QueryFault.TheVariants.{OutOfMemory, OverLimit};
 ghost use Rattle.semantics.specs.Syntax.{TreeForm};
 ghost use Rattle.semantics.specs.Reading.{Derives, IsRefusalOf, Refuses};
+ghost use Rattle.semantics.specs.Limits.{max_query_len};
 
 use query_lexer::{TokenFault, Tokens, read_tokens};
 use query_parser::{GrammarFault, read_query};
@@ -35,7 +36,7 @@ pub fn parse(alloc: Global, text: &str) -> Result<Query, QueryFault>
     ensures read { (q : TreeForm) → Derives text.now q
         → MatchResult result (λ query. query ≡ q) (λ fault. fault ≡ OutOfMemory) }
     // A text that is too long has no other fault.
-    ensures too_long { 65536 < length text.now → result ≡ Err OverLimit }
+    ensures too_long { max_query_len < length text.now → result ≡ Err OverLimit }
     // A fault is one of the text, or memory ran out.
     ensures refused { IfErr result (λ fault. (fault ≡ OutOfMemory) ⊎ IsRefusalOf text.now fault) }
     // A fault of the text is told, and no other, unless memory runs out.

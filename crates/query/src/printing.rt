@@ -3,6 +3,7 @@
 ghost use Rattle.std.specs.Prelude.{◌≡◌, ◌≤◌, IfOk, length, string_bytes};
 ghost use Rattle.semantics.specs.Canonical.{canonical_text};
 ghost use Rattle.semantics.specs.Reading.{Derives};
+ghost use Rattle.semantics.specs.Limits.{max_query_len};
 
 use query_plan::Query;
 use query_printer::print_tree;
@@ -22,7 +23,7 @@ use std::alloc::{AllocError, Global};
 pub fn print(alloc: Global, query: &Query) -> Result<String, AllocError>
     ensures text { IfOk result (λ text. string_bytes text ≡ canonical_text query.now) }
     // Where it is not too long, it derives the query again, so that `parse` gives it back.
-    ensures again { IfOk result (λ text. length (string_bytes text) ≤ 65536
+    ensures again { IfOk result (λ text. length (string_bytes text) ≤ max_query_len
         → Derives (string_bytes text) query.now) }
 {
     print_tree(alloc, query.tree())

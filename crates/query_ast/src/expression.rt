@@ -7,7 +7,7 @@ use semantics::{Aggregate, Literal, Op, Text, Truth};
 ///
 /// Example: `COUNT(*) FILTER (WHERE cents > 5)` is `CountRows` with the filter `cents > 5`.
 #[cycle(expression)]
-#[derive(Drop)]
+#[derive(PartialEq, Drop)]
 pub struct SetFunction {
     /// The function and its argument.
     pub aggregate: Aggregate,
@@ -19,7 +19,7 @@ pub struct SetFunction {
 ///
 /// Example: in `SELECT shop, COUNT(*) FROM lines GROUP BY shop` the items compute a `Name` and a `Function`.
 #[cycle(expression)]
-#[derive(Drop)]
+#[derive(PartialEq, Drop)]
 pub enum Expression {
     /// A column, or in ORDER BY an alias.
     Name(Text),
@@ -34,7 +34,7 @@ pub enum Expression {
 ///
 /// Example: in `cents > 5` they are the expression `cents` and the literal 5.
 #[cycle(expression)]
-#[derive(Drop)]
+#[derive(PartialEq, Drop)]
 pub enum Operand {
     /// An expression.
     Expression(Expression),
@@ -47,7 +47,7 @@ pub enum Operand {
 ///
 /// Example: `a AND b OR c` is `Or` of two parts: `And` of the columns `a` and `b`, and the column `c`.
 #[cycle(expression)]
-#[derive(Drop)]
+#[derive(PartialEq, Drop)]
 pub enum Predicate {
     /// `p OR q OR ..`, two parts or more.
     Or(Vec<Predicate>),

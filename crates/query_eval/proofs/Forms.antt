@@ -14,7 +14,7 @@ use Rattle.query_ast.specs.declared.expression.Expression.TheFolds.{fold-roll-Pr
 use Rattle.query_ast.specs.declared.expression.Expression.TheViews.{roll-Predicate}
 use Rattle.semantics.specs.Syntax.{ExpressionForm, FunctionForm, OperandForm, PredicateForm, and_of, column, or_of, predicate_forms}
 use Rattle.query_ast.specs.Syntax.{expression_step, function_step, operand_step, predicate_form, predicate_step}
-use Rattle.query_eval.specs.declared.condition.Source.{Source}
+use Rattle.query_eval.specs.declared.condition.OperandSource.{OperandSource}
 use Rattle.query_eval.specs.declared.condition.Condition.{Condition}
 use Rattle.query_eval.specs.declared.condition.Condition.TheVariants as variant
 use Rattle.query_eval.specs.declared.condition.Condition.TheOpen as layer
@@ -32,28 +32,28 @@ or-worth v values = at values (ap condition_truth (sym (variant.rolls-Or v)) ∙
 pub and-worth : (v : Vec Condition) (values : List Datum) → condition_truth (variant.And v) values ≡ all_of (map (λ truth. truth values) (map condition_truth v.items))
 and-worth v values = at values (ap condition_truth (sym (variant.rolls-And v)) ∙ fold-roll-Condition (List Datum → Truth) truth_step (layer.And v))
 
-pub comparison-safe : (x : Source) (o : Op) (y : Source) (values : List Datum)
+pub comparison-safe : (x : OperandSource) (o : Op) (y : OperandSource) (values : List Datum)
     → is_safe (variant.Compare x o y) values ≡ (is_there values x && (is_there values y && comparable (source_value values x) (source_value values y)))
 unfolding roll-Condition denote.Hole.Carrier.roll
 comparison-safe x o y values = at values (fold-roll-Condition (List Datum → Bool) safe_step (layer.Compare x o y))
 
-pub between-safe : (x : Source) (n : Bool) (y z : Source) (values : List Datum)
+pub between-safe : (x : OperandSource) (n : Bool) (y z : OperandSource) (values : List Datum)
     → is_safe (variant.Between x n y z) values
     ≡ (is_there values x && (is_there values y && (is_there values z
     && (comparable (source_value values x) (source_value values y) && comparable (source_value values x) (source_value values z)))))
 unfolding roll-Condition denote.Hole.Carrier.roll
 between-safe x n y z values = at values (fold-roll-Condition (List Datum → Bool) safe_step (layer.Between x n y z))
 
-pub member-safe : (x : Source) (n : Bool) (v : Vec Value) (values : List Datum)
+pub member-safe : (x : OperandSource) (n : Bool) (v : Vec Value) (values : List Datum)
     → is_safe (variant.In x n v) values ≡ (is_there values x && list_all (comparable (source_value values x)) (map datum_of v.items))
 unfolding roll-Condition denote.Hole.Carrier.roll
 member-safe x n v values = at values (fold-roll-Condition (List Datum → Bool) safe_step (layer.In x n v))
 
-pub null-safe : (x : Source) (n : Bool) (values : List Datum) → is_safe (variant.IsNull x n) values ≡ is_there values x
+pub null-safe : (x : OperandSource) (n : Bool) (values : List Datum) → is_safe (variant.IsNull x n) values ≡ is_there values x
 unfolding roll-Condition denote.Hole.Carrier.roll
 null-safe x n values = at values (fold-roll-Condition (List Datum → Bool) safe_step (layer.IsNull x n))
 
-pub name-safe : (x : Source) (values : List Datum) → is_safe (variant.Holds x) values ≡ (is_there values x && is_truth_value (source_value values x))
+pub name-safe : (x : OperandSource) (values : List Datum) → is_safe (variant.Holds x) values ≡ (is_there values x && is_truth_value (source_value values x))
 unfolding roll-Condition denote.Hole.Carrier.roll
 name-safe x values = at values (fold-roll-Condition (List Datum → Bool) safe_step (layer.Holds x))
 

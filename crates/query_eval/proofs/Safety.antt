@@ -22,7 +22,7 @@ use Rattle.semantics.specs.Names.{column_kind, kind_at, place_of}
 use Rattle.query_typecheck.specs.Typing.{IsOfOneKind, IsTypedExpression, IsTypedName, IsTypedOperand}
 use Rattle.semantics.specs.Types.{expression_kind, literal_kind, operand_kind}
 use Rattle.semantics.specs.Conditions.{column_value, record_value, literal_value, operand_value}
-use Rattle.query_eval.specs.declared.condition.Source.{Source}
+use Rattle.query_eval.specs.declared.condition.OperandSource.{OperandSource}
 use Rattle.query_eval.specs.Binding.{AreValuesOf, GivesOperand, ScopeForm}
 use Rattle.query_eval.specs.Inside.Binding.{record_scope}
 use Rattle.query_eval.specs.Meaning.{comparable, is_of, is_there, is_truth_value, source_value}
@@ -183,11 +183,11 @@ comparable-literals scope grouped x ls values are xt same = go ls (recursion_fro
 -- ---- their sources
 
 -- the value of a source is there
-pub there : (scope : ScopeForm) (values : List Datum) (x : OperandForm) (s : Source) → GivesOperand scope x s → AreValuesOf scope values → is_there values s ≡ true
+pub there : (scope : ScopeForm) (values : List Datum) (x : OperandForm) (s : OperandSource) → GivesOperand scope x s → AreValuesOf scope values → is_there values s ≡ true
 there scope values x s gives are = gives.there values are.count
 
 -- those of operands of one type can be compared
-pub compared : (scope : ScopeForm) (grouped : List ℕ) (values : List Datum) (x y : OperandForm) (s t : Source)
+pub compared : (scope : ScopeForm) (grouped : List ℕ) (values : List Datum) (x y : OperandForm) (s t : OperandSource)
     → GivesOperand scope x s → GivesOperand scope y t → AreValuesOf scope values
     → IsTypedOperand scope.fields grouped scope.clause x → IsTypedOperand scope.fields grouped scope.clause y
     → IsOfOneKind (operand_kind scope.fields x) (operand_kind scope.fields y) → comparable (source_value values s) (source_value values t) ≡ true
@@ -195,7 +195,7 @@ compared scope grouped values x y s t gives other are xt yt one =
     ap (λ a. comparable a (source_value values t)) (gives.value values) ∙ ap (comparable (operand_value (scope.value values) x)) (other.value values)
     ∙ comparable-typed scope grouped x y values are xt yt one
 
-pub compared-all : (scope : ScopeForm) (grouped : List ℕ) (values : List Datum) (x : OperandForm) (s : Source) (ls : List Literal) (ds : List Datum)
+pub compared-all : (scope : ScopeForm) (grouped : List ℕ) (values : List Datum) (x : OperandForm) (s : OperandSource) (ls : List Literal) (ds : List Datum)
     → GivesOperand scope x s → ds ≡ map literal_value ls → AreValuesOf scope values → IsTypedOperand scope.fields grouped scope.clause x
     → All (λ a. IsOfOneKind (operand_kind scope.fields x) (Some (literal_kind a))) ls → list_all (comparable (source_value values s)) ds ≡ true
 compared-all scope grouped values x s ls ds gives same are xt one =
@@ -203,7 +203,7 @@ compared-all scope grouped values x s ls ds gives same are xt one =
     ∙ comparable-literals scope grouped x ls values are xt one
 
 -- that of a bare name is a truth value, or NULL
-pub told : (scope : ScopeForm) (grouped : List ℕ) (values : List Datum) (n : List ℕ) (s : Source)
+pub told : (scope : ScopeForm) (grouped : List ℕ) (values : List Datum) (n : List ℕ) (s : OperandSource)
     → GivesOperand scope (expression (name n)) s → AreValuesOf scope values → IsTypedName scope.fields grouped scope.clause n → column_kind scope.fields n ≡ Some kind.Bool
     → is_truth_value (source_value values s) ≡ true
 told scope grouped values n s gives are typed has =

@@ -11,7 +11,7 @@ use Rattle.semantics.specs.Types.{expression_kind}
 use Rattle.query_typecheck.specs.declared.scope.Clause.{Clause}
 use Rattle.query_typecheck.specs.declared.scope.Clause.TheVariants as clause
 use Rattle.query_typecheck.specs.Typing.{IsTypedExpression, IsTypedPredicate, IsTypedClause}
-use Rattle.query_eval.specs.declared.condition.Source.{Source}
+use Rattle.query_eval.specs.declared.condition.OperandSource.{OperandSource}
 use Rattle.query_eval.specs.declared.condition.Condition.{Condition}
 use Rattle.semantics.specs.Conditions.{Valuation, operand_value, truth, where_truth}
 use Rattle.query_eval.specs.Meaning.{condition_truth, is_of, is_safe, is_there, source_value}
@@ -34,12 +34,12 @@ pub record AreValuesOf (scope : ScopeForm) (values : List Datum) : Type 0 where
       → is_of k (scope.value values e) ≡ true
 
 -- a source has the value of an operand, and it is there
-pub record GivesOperand (scope : ScopeForm) (x : OperandForm) (s : Source) : Type 0 where
+pub record GivesOperand (scope : ScopeForm) (x : OperandForm) (s : OperandSource) : Type 0 where
   pub value : (values : List Datum) → source_value values s ≡ operand_value (scope.value values) x
   pub there : (values : List Datum) → length values ≡ scope.count → is_there values s ≡ true
 
 -- a source has the value of an expression, and it is there
-abbrev pub GivesExpression : ScopeForm → ExpressionForm → Source → Type 0
+abbrev pub GivesExpression : ScopeForm → ExpressionForm → OperandSource → Type 0
 GivesExpression scope e s = GivesOperand scope (expression e) s
 
 -- a condition is worth what the predicate is worth

@@ -9,20 +9,20 @@ use Rattle.semantics.specs.Values.{Datum, boolean, whole, text, null, comparison
 use Rattle.values.specs.Datum.{datum_of}
 use Rattle.semantics.specs.Truth.{negation}
 use Rattle.semantics.specs.Conditions.{any_of, all_of, known_truth, with_not, same_truth, between_truth, member_truth, value_truth}
-use Rattle.query_eval.specs.declared.condition.Source.{Source}
-use Rattle.query_eval.specs.declared.condition.Source.TheVariants as source
+use Rattle.query_eval.specs.declared.condition.OperandSource.{OperandSource}
+use Rattle.query_eval.specs.declared.condition.OperandSource.TheVariants as source
 use Rattle.query_eval.specs.declared.condition.Condition.{Condition}
 use Rattle.query_eval.specs.declared.condition.Condition.TheOpen.{Condition-F}
 use Rattle.query_eval.specs.declared.condition.Condition.TheOpen as layer
 use Rattle.query_eval.specs.declared.condition.Condition.TheFolds.{fold-Condition}
 
 -- the value of a source, NULL where there is none
-abbrev pub source_value : List Datum → Source → Datum
+abbrev pub source_value : List Datum → OperandSource → Datum
 source_value values (source.Value place) = unwrap_or (slice_get values place) null
 source_value values (source.Literal a) = datum_of a
 
 -- whether there is a value at the place of a source
-abbrev pub is_there : List Datum → Source → Bool
+abbrev pub is_there : List Datum → OperandSource → Bool
 is_there values (source.Value place) = nat_lt place (length values)
 is_there values (source.Literal a) = true
 

@@ -8,7 +8,7 @@ ghost use Rattle.semantics.specs.Conditions.{literal_value};
 ghost use Rattle.query_eval.specs.Inside.Binding.{AreSafeWhereTyped, GivesParts};
 ghost use Rattle.query_eval.specs.Binding.{GivesOperand, GivesPredicate, IsSafeWhereTyped};
 
-use crate::condition::{Condition, Source};
+use crate::condition::{Condition, OperandSource};
 use crate::scope::Scope;
 use query_ast::{Literal, Operand, Predicate, Text};
 use std::alloc::{AllocError, Global};
@@ -41,12 +41,12 @@ fn operand_source<S: Scope>(
     alloc: Global,
     scope: &S,
     operand: &Operand,
-) -> Result<Source, AllocError>
+) -> Result<OperandSource, AllocError>
     ensures { IfOk result (GivesOperand (S.form scope.now) (operand_form operand.now)) }
 {
     match operand {
         Operand::Expression(expression) => Ok(scope.expression_source(expression)),
-        Operand::Literal(literal) => Ok(Source::Literal(literal_value(alloc, literal)?)),
+        Operand::Literal(literal) => Ok(OperandSource::Literal(literal_value(alloc, literal)?)),
     }
 }
 
@@ -56,7 +56,7 @@ fn two_sources<S: Scope>(
     scope: &S,
     first: &Operand,
     second: &Operand,
-) -> Result<(Source, Source), AllocError>
+) -> Result<(OperandSource, OperandSource), AllocError>
     ensures { IfOk result (λ both.
         GivesOperand (S.form scope.now) (operand_form first.now) both.0
         × GivesOperand (S.form scope.now) (operand_form second.now) both.1) }
@@ -157,7 +157,7 @@ fn bind_column<S: Scope>(scope: &S, name: &Text) -> Condition
 /// scope, the condition can be evaluated for each list of values of the scope.
 ///
 /// Example: in WHERE under the columns `a:bool,q:int` that of the predicate `a` is
-/// `Holds(Source::Value(0))`.
+/// `Holds(OperandSource::Value(0))`.
 ///
 /// # Errors
 ///

@@ -11,10 +11,10 @@ use values::{Op, Truth, Value, compare};
 
 /// Where the value of an operand comes from.
 ///
-/// Example: under the columns `a:bool,q:int` the operand `q` is `Source::Value(1)`, and the operand 5
-/// is `Source::Literal(Value::Int(5))`.
+/// Example: under the columns `a:bool,q:int` the operand `q` is `OperandSource::Value(1)`, and the operand 5
+/// is `OperandSource::Literal(Value::Int(5))`.
 #[derive(Drop)]
-pub enum Source {
+pub enum OperandSource {
     /// The value at this place, from 0.
     Value(usize),
     /// A value that is written in the query.
@@ -24,7 +24,7 @@ pub enum Source {
 /// A predicate whose operands are places of values, and literals. It is made of a predicate once, so
 /// that no name is looked up for each record.
 ///
-/// Example: under the columns `a:bool,q:int` the predicate `a` is `Holds(Source::Value(0))`.
+/// Example: under the columns `a:bool,q:int` the predicate `a` is `Holds(OperandSource::Value(0))`.
 #[derive(Drop)]
 pub enum Condition {
     /// `p OR q OR ..`
@@ -45,27 +45,27 @@ pub enum Condition {
     /// `x = y`, ISO/IEC 9075-2 `<comparison predicate>`.
     Compare {
         /// The operand on the left.
-        left: Source,
+        left: OperandSource,
         /// The operator.
         op: Op,
         /// The operand on the right.
-        right: Source,
+        right: OperandSource,
     },
     /// `x BETWEEN y AND z`, ISO/IEC 9075-2 `<between predicate>`.
     Between {
         /// What is tested.
-        operand: Source,
+        operand: OperandSource,
         /// Whether it is `NOT BETWEEN`.
         not: bool,
         /// The lower end, included.
-        low: Source,
+        low: OperandSource,
         /// The upper end, included.
-        high: Source,
+        high: OperandSource,
     },
     /// `x IN (1, 2)`, ISO/IEC 9075-2 `<in predicate>`.
     In {
         /// What is tested.
-        operand: Source,
+        operand: OperandSource,
         /// Whether it is `NOT IN`.
         not: bool,
         /// The values.
@@ -74,15 +74,15 @@ pub enum Condition {
     /// `x IS NULL`, ISO/IEC 9075-2 `<null predicate>`.
     IsNull {
         /// What is tested.
-        operand: Source,
+        operand: OperandSource,
         /// Whether it is `IS NOT NULL`.
         not: bool,
     },
     /// A value that is itself a truth value, or NULL, which is Unknown.
-    Holds(Source),
+    Holds(OperandSource),
 }
 
-impl Source {
+impl OperandSource {
     ghost use Rattle.std.specs.Prelude.{◌≡◌, true};
     ghost use Rattle.values.specs.Datum.{data_of, datum_of};
     ghost use Rattle.query_eval.specs.Meaning.{is_there, source_value};
@@ -93,8 +93,8 @@ impl Source {
         ensures { datum_of result.now ≡ source_value (data_of values.now) self.now }
     {
         match self {
-            Source::Value(place) => &values[*place],
-            Source::Literal(value) => value,
+            OperandSource::Value(place) => &values[*place],
+            OperandSource::Literal(value) => value,
         }
     }
 }

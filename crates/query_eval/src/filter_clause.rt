@@ -20,7 +20,7 @@ use values::{Column, Truth, Value};
 /// The conditions of the predicates of FILTERs, in their order, under these columns. Where a predicate is typed as
 /// WHERE is, its condition can be evaluated for each record that fits the columns.
 ///
-/// Example: under the columns `a:bool,q:int` the predicate `a` gives `Holds(Source::Value(0))`.
+/// Example: under the columns `a:bool,q:int` the predicate `a` gives `Holds(OperandSource::Value(0))`.
 ///
 /// # Errors
 ///

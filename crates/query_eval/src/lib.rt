@@ -8,7 +8,7 @@ mod scope;
 mod where_clause;
 
 pub use binding::bind;
-pub use condition::{Condition, Source};
+pub use condition::{Condition, OperandSource};
 pub use filter_clause::{bind_filters, condition_truth_at, mark_conditions};
 pub use scope::Scope;
 pub use where_clause::{bind_where, bound_truth};

@@ -4,7 +4,7 @@ ghost use Rattle.semantics.specs.Syntax.{name};
 ghost use Rattle.query_ast.specs.Syntax.{expression_form};
 ghost use Rattle.query_eval.specs.Binding.{GivesExpression, ScopeForm};
 
-use crate::condition::Source;
+use crate::condition::OperandSource;
 use query_ast::{Expression, Text};
 use query_resolve::place_of;
 use values::{Column, Value};
@@ -18,14 +18,14 @@ pub trait Scope {
 
     /// Where the value of the column of a name comes from. It takes no memory.
     ///
-    /// Example: in WHERE under the columns `a:bool,q:int` that of `q` is `Source::Value(1)`.
-    fn name_source(&self, column: &Text) -> Source
+    /// Example: in WHERE under the columns `a:bool,q:int` that of `q` is `OperandSource::Value(1)`.
+    fn name_source(&self, column: &Text) -> OperandSource
         ensures { GivesExpression (form self.now) (name column.now) result };
 
     /// Where the value of an expression comes from. It takes no memory.
     ///
     /// Example: in WHERE that of a name is what `name_source` answers.
-    fn expression_source(&self, expression: &Expression) -> Source
+    fn expression_source(&self, expression: &Expression) -> OperandSource
         ensures { GivesExpression (form self.now) (expression_form expression.now) result };
 }
 
@@ -42,19 +42,21 @@ impl Scope for RecordScope<'_> {
     ghost form = { λ scope. record_scope (fields_of scope.columns.now) };
 
     /// Where the value of a column comes from. What is no column has no value; typing lets none stand.
-    fn name_source(&self, column: &Text) -> Source {
+    fn name_source(&self, column: &Text) -> OperandSource {
         match place_of(self.columns, column.as_str()) {
-            Some(place) => Source::Value(place),
-            None => Source::Literal(Value::Null),
+            Some(place) => OperandSource::Value(place),
+            None => OperandSource::Literal(Value::Null),
         }
     }
 
     /// Where the value of an expression comes from. No GROUPING and no set function has one in WHERE;
     /// typing lets none stand there.
-    fn expression_source(&self, expression: &Expression) -> Source {
+    fn expression_source(&self, expression: &Expression) -> OperandSource {
         match expression {
             Expression::Name(column) => self.name_source(column),
-            Expression::Grouping(_) | Expression::Function(_) => Source::Literal(Value::Null),
+            Expression::Grouping(_) | Expression::Function(_) => OperandSource::Literal(
+                Value::Null,
+            ),
         }
     }
 }

@@ -18,7 +18,7 @@ use values::{Column, Truth, Value};
 /// predicate is typed, the condition can be evaluated for each record that fits the columns.
 ///
 /// Example: without WHERE it answers `None`; of `WHERE a` under the columns `a:bool,q:int` it answers
-/// `Some` of `Holds(Source::Value(0))`.
+/// `Some` of `Holds(OperandSource::Value(0))`.
 ///
 /// # Errors
 ///

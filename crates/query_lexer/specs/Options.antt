@@ -1,11 +1,10 @@
 -- Options that are made step by step, for the contracts of private functions.
-use Rattle.std.specs.Prelude.{◌≡◌, Option, Some, None}
+use Rattle.std.specs.Prelude.{◌≡◌, Option, Some, None, option_and_then}
 
 infixl 10 ◌>>=◌
 -- One step that may fail, and then another.
 abbrev pub ◌>>=◌ : {A B : Type 0} → Option A → (A → Option B) → Option B
-(Some x) >>= f = f x
-None >>= f = None
+read >>= f = option_and_then f read
 
 -- What is made of a value, or what stands for none.
 abbrev pub choose : {A B : Type 0} → Option A → B → (A → B) → B

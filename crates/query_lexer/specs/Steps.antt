@@ -1,6 +1,6 @@
 -- What the private functions of this crate read in front of a text, one definition for each function, as it computes it.
 -- No public contract rests on this file: what a text spells is said in Spelling.
-use Rattle.std.specs.Prelude.{ℕ, ℤ, pos, List, ◌∷◌, take, drop, Option, Some, None, Bool, true, false, ◌==◌, ◌||◌, ◌^◌, nat_le, nat_lt, cond, []}
+use Rattle.std.specs.Prelude.{ℕ, ℤ, pos, List, ◌∷◌, take, drop, Option, Some, None, Bool, true, false, ◌==◌, ◌||◌, ◌^◌, nat_le, nat_lt, cond, [], ◌<◌}
 use Rattle.std.specs.List.{prefix_len}
 use Rattle.std.specs.Char.{is_ascii_digit}
 use Rattle.std.specs.Str.Parse.{digits_value}
@@ -105,3 +105,7 @@ other_at bs = choose (behind 34 bs) (choose (behind 39 bs) (number_at bs) (λ r.
 -- The token in front.
 unfoldable pub token_at : List ℕ → Option (Token × List ℕ)
 token_at bs = cond (begins_with begins_word bs) (Some (word_at bs)) (choose (sign_at bs) (other_at bs) (λ x. Some (tokens.Sign x.0, x.1)))
+
+-- a character of ASCII, which is one byte
+abbrev pub IsAscii : ℕ → Type 0
+IsAscii c = c < 128

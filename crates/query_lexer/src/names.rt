@@ -2,6 +2,7 @@
 
 ghost use Rattle.std.specs.Prelude.{◌≡◌, ◌<◌, ◌++◌, OnOk, string_bytes};
 ghost use Rattle.semantics.specs.Words.{is_plain_name, quoted_text, name_text};
+ghost use Rattle.query_lexer.specs.Steps.{IsAscii};
 
 use crate::words::{is_word, reserved_word};
 use std::alloc::AllocError;
@@ -25,7 +26,7 @@ pub fn is_plain_name(name: &str) -> bool
 ///
 /// `AllocError` where memory was refused. Then nothing is promised of what stands in `out`.
 pub fn push_quoted(out: &mut String, text: &str, quote: char) -> Result<(), AllocError>
-    requires { quote < 128 }
+    requires { IsAscii quote }
     ensures { OnOk result (string_bytes out.new
         ≡ string_bytes out.old ++ quoted_text quote text.now) }
 {

@@ -2,7 +2,7 @@
 
 ghost use Rattle.std.specs.Prelude.{◌≡◌, ◌<◌, length, IfOk, IfSome, string_bytes};
 ghost use Rattle.query_lexer.specs.Options.{Tells};
-ghost use Rattle.query_lexer.specs.Steps.{quoted_at, name_behind, text_behind};
+ghost use Rattle.query_lexer.specs.Steps.{quoted_at, name_behind, text_behind, IsAscii};
 
 use crate::signs::behind;
 use query_ast::Text;
@@ -15,7 +15,7 @@ fn quoted_content(
     text: &str,
     quote: char,
 ) -> Result<Option<(String, &str)>, AllocError>
-    requires { quote < 128 }
+    requires { IsAscii quote }
     ensures exact { IfOk result (λ o.
         Tells (λ x. (string_bytes x.0, x.1.now)) o (quoted_at quote text.now)) }
     ensures shorter { IfOk result (λ o. IfSome o (λ x. length x.1.now < length text.now)) }

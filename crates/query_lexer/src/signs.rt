@@ -2,13 +2,13 @@
 
 ghost use Rattle.std.specs.Prelude.{◌≡◌, ◌<◌, ◌≤◌, length, IfSome};
 ghost use Rattle.query_lexer.specs.Options.{Tells};
-ghost use Rattle.query_lexer.specs.Steps.{behind, after_space, sign_behind_less, sign_behind_greater, order_at, sign_at};
+ghost use Rattle.query_lexer.specs.Steps.{behind, after_space, sign_behind_less, sign_behind_greater, order_at, sign_at, IsAscii};
 
 use semantics::Sign;
 
 /// What stands behind an ASCII character in front.
 pub fn behind(text: &str, c: char) -> Option<&str>
-    requires { c < 128 }
+    requires { IsAscii c }
     ensures exact { Tells (λ x. x.now) result (behind c text.now) }
     ensures shorter { IfSome result (λ x. length x.now < length text.now) }
 {

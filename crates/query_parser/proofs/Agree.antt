@@ -5,10 +5,11 @@ use Rattle.semantics.specs.declared.token.Token.{Token}
 use Rattle.semantics.specs.declared.token.Sign.TheVariants as s
 use Rattle.query_lexer.specs.Options.{choose}
 use Rattle.semantics.specs.Leaves.{Limits}
+use Rattle.values.specs.Results.{◌>>=◌}
 use Rattle.query_parser.specs.Inside.Stops.{Stop}
 use Rattle.query_parser.specs.Inside.Stops as halts
 use Rattle.query_parser.specs.Inside.Fronts.{is_sign, after}
-use Rattle.query_parser.specs.Inside.Steps.{◌>>=◌, Reader, unexpected_at, found_or_unexpected, excess, with_front, more, listed_at, name_at, begins_name}
+use Rattle.query_parser.specs.Inside.Steps.{Reader, unexpected_at, found_or_unexpected, excess, with_front, more, listed_at, name_at, begins_name}
 use Rattle.query_parser.specs.Inside.LeafSteps.{arguments_at, literal_at, begins_literal, literals_at}
 
 -- ---- limits

@@ -1,9 +1,10 @@
 -- What follows from a result that is made step by step.
 use Rattle.std.proofs.Common.{Bool, true, false, cond, List, ◌≡◌, ◌⊎◌, inl, inr, Option, Some, None, Result, Ok, Err, refl}
 use Rattle.semantics.specs.declared.token.Token.{Token}
+use Rattle.values.specs.Results.{◌>>=◌}
 use Rattle.query_lexer.specs.Options.{choose}
 use Rattle.query_parser.specs.Inside.Stops.{Stop}
-use Rattle.query_parser.specs.Inside.Steps.{◌>>=◌, found_or_unexpected}
+use Rattle.query_parser.specs.Inside.Steps.{found_or_unexpected}
 
 -- Two steps that give a value: the first gave one.
 pub bind_ok : {A B : Type 0} (o : Result A Stop) (f : A → Result B Stop) (y : B) → (o >>= f) ≡ Ok y → (x : A) × (o ≡ Ok x) × (f x ≡ Ok y)

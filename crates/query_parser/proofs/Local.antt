@@ -1,11 +1,12 @@
 -- A reader looks at no token behind the first one that it leaves: on other tokens with the same front it does the same.
 use Rattle.std.proofs.Common.{arith, length, ◌<◌, ◌≤◌, ◌+◌, ◌≡◌, ◌⊎◌, inl, inr, ℕ, zero, suc, Bool, true, false, cond, List, [], ◌∷◌, ◌++◌, Option, Some, None, Result, Ok, Err, refl, sym, ap, subst, ◌∙◌}
 use Rattle.semantics.specs.declared.token.Token.{Token}
+use Rattle.values.specs.Results.{◌>>=◌}
 use Rattle.query_lexer.specs.Options.{choose}
 use Rattle.query_parser.specs.Inside.Stops.{Stop}
 use Rattle.query_parser.specs.Inside.Stops as halts
 use Rattle.query_parser.specs.Inside.Fronts.{after}
-use Rattle.query_parser.specs.Inside.Steps.{◌>>=◌, Reader, unexpected_at, over, found_or_unexpected, excess, with_front, more}
+use Rattle.query_parser.specs.Inside.Steps.{Reader, unexpected_at, over, found_or_unexpected, excess, with_front, more}
 use Rattle.query_parser.proofs.Inversions.{bind_ok, ok_is}
 
 -- ---- lists of tokens with the same front

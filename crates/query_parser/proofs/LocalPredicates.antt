@@ -8,8 +8,9 @@ use Rattle.query_lexer.specs.Options.{choose}
 use Rattle.semantics.specs.Syntax.{ExpressionForm, OperandForm, PredicateForm, over_all, over_filtered, truth_test, compare, between, member, null_test, column, not_of}
 use Rattle.semantics.specs.Productions.{conjunction_of, disjunction_of}
 use Rattle.semantics.specs.Leaves.{Limits}
+use Rattle.values.specs.Results.{◌>>=◌}
 use Rattle.query_parser.specs.Inside.Fronts.{is_word, is_sign, after}
-use Rattle.query_parser.specs.Inside.Steps.{◌>>=◌, Reader, over, found_or_unexpected, more, name_at}
+use Rattle.query_parser.specs.Inside.Steps.{Reader, over, found_or_unexpected, more, name_at}
 use Rattle.query_parser.specs.Inside.LeafSteps.{aggregate_at, arguments_at, literal_at, literals_at, op_at, truth_at, mark_at}
 use Rattle.query_parser.specs.Inside.ExpressionSteps.{Inside, filter_at, function_at, expression_at, begins_expression}
 use Rattle.query_parser.specs.Inside.AtomSteps.{operand_at, member_after, between_after, negated_after, column_of, atom_after, test_after, is_after, tested_atom_at}

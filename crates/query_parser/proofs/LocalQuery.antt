@@ -12,7 +12,7 @@ use Rattle.semantics.specs.Syntax.{ExpressionForm, PredicateForm, ElementForm, I
 use Rattle.query_parser.specs.Inside.Stops.{Stop}
 use Rattle.query_parser.specs.Inside.Stops as halts
 use Rattle.query_parser.specs.Inside.Fronts.{is_word, is_sign, after}
-use Rattle.query_parser.specs.Inside.Steps.{◌>>=◌, Reader, unexpected_at, found_or_unexpected, with_front, more, name_at, begins_name}
+use Rattle.query_parser.specs.Inside.Steps.{Reader, unexpected_at, found_or_unexpected, with_front, more, name_at, begins_name}
 use Rattle.query_parser.specs.Inside.ExpressionSteps.{expression_at, begins_expression}
 use Rattle.query_parser.specs.Inside.PredicateSteps.{predicate_at, inside_of, any_front}
 use Rattle.query_parser.specs.Inside.GroupSteps.{all_at, enclosed_at, begins_unit, unit_at, units_at, nothing_at, set_at, element_at, sets_at, group_at}
@@ -23,6 +23,7 @@ use Rattle.query_parser.proofs.LocalLeaves.{TellsByFront, local_listed, local_cl
 use Rattle.semantics.specs.Leaves.{Limits, standard}
 use Rattle.semantics.specs.Grammar.{DerivesWithin}
 use Rattle.semantics.specs.Prefixes.{BeginsWithin, Begins}
+use Rattle.values.specs.Results.{◌>>=◌}
 use Rattle.query_parser.proofs.Agree.{both, wider_same, wider_one, wider_other, agrees_unexpected}
 use Rattle.query_parser.proofs.AgreeQuery.{whole_agrees}
 use Rattle.query_parser.proofs.Complete.{whole_c}

@@ -10,8 +10,9 @@ use Rattle.query_lexer.specs.Options.{choose}
 use Rattle.query_parser.specs.Inside.Stops.{Stop}
 use Rattle.query_parser.specs.Inside.Stops as halts
 use Rattle.query_parser.specs.Inside.Fronts.{is_sign, after}
-use Rattle.query_parser.specs.Inside.Steps.{◌>>=◌, Reader, unexpected_at, over, found_or_unexpected, excess, with_front, more}
+use Rattle.query_parser.specs.Inside.Steps.{Reader, unexpected_at, over, found_or_unexpected, excess, with_front, more}
 use Rattle.semantics.specs.Leaves.{Derivation, IsRepeated}
+use Rattle.values.specs.Results.{◌>>=◌}
 use Rattle.query_parser.proofs.Inversions.{bind_ok, choose_ok, ok_is}
 use Rattle.query_parser.proofs.Heads.{after_sign_is}
 

@@ -10,12 +10,13 @@ use Rattle.query_lexer.specs.Options.{choose}
 use Rattle.semantics.specs.declared.literal.Literal.{Literal}
 use Rattle.semantics.specs.Syntax.{ExpressionForm, OperandForm, PredicateForm, truth_test, compare, between, member, null_test, column}
 use Rattle.query_parser.specs.Inside.Fronts.{is_word, after}
-use Rattle.query_parser.specs.Inside.Steps.{◌>>=◌, Reader, found_or_unexpected}
+use Rattle.query_parser.specs.Inside.Steps.{Reader, found_or_unexpected}
 use Rattle.query_parser.specs.Inside.LeafSteps.{literal_at, literals_at, op_at, truth_at, mark_at}
 use Rattle.query_parser.specs.Inside.ExpressionSteps.{Inside, expression_at}
 use Rattle.query_parser.specs.Inside.AtomSteps.{operand_at, member_after, between_after, negated_after, column_of, atom_after, test_after, is_after, tested_atom_at}
 use Rattle.semantics.specs.Leaves.{Derivation, IsLiteral, IsOp, IsOptional}
 use Rattle.semantics.specs.Productions.{IsExpression, IsOperand, IsAtom, IsPrimary, IsTest}
+use Rattle.values.specs.Results.{◌>>=◌}
 use Rattle.query_parser.proofs.Viable.{Phrase, Viable, Listed, Enclosed, Exactly, exactly, viable_ok, viable_stuck, viable_as, viable_bind, viable_made, viable_front}
 use Rattle.query_parser.proofs.ViableLeaves.{limits_of, viable_word, found_or_stuck_word, viable_mark, literal_finds, Literals, literals_v, op_finds, truth_v}
 use Rattle.query_parser.proofs.ViableExpressions.{InsideViable, a_name, expression_v}

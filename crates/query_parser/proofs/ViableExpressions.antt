@@ -12,11 +12,12 @@ use Rattle.semantics.specs.Syntax.{ExpressionForm, FunctionForm, PredicateForm, 
 use Rattle.query_parser.specs.Inside.Stops.{Stop}
 use Rattle.query_parser.specs.Inside.Stops as halts
 use Rattle.query_parser.specs.Inside.Fronts.{is_word, is_sign, after}
-use Rattle.query_parser.specs.Inside.Steps.{◌>>=◌, Reader, unexpected_at, over, found_or_unexpected, name_at}
+use Rattle.query_parser.specs.Inside.Steps.{Reader, unexpected_at, over, found_or_unexpected, name_at}
 use Rattle.query_parser.specs.Inside.LeafSteps.{aggregate_at, arguments_at}
 use Rattle.query_parser.specs.Inside.ExpressionSteps.{Inside, filter_at, function_at, expression_at, begins_expression}
 use Rattle.semantics.specs.Leaves.{standard, Derivation, IsRepeated, IsName, IsAggregate}
 use Rattle.semantics.specs.Productions.{IsFunction, IsExpression}
+use Rattle.values.specs.Results.{◌>>=◌}
 use Rattle.query_parser.proofs.Heads.{after_word_is, after_sign_is}
 use Rattle.query_parser.proofs.Inversions.{choose_ok}
 use Rattle.query_parser.proofs.Viable.{Phrase, GoesOn, Reaches, Claimed, Uncounted, Viable, BeginsPart, TellsPart, Listed, Closed, Enclosed, Exactly, choose_err, exactly, phrase_behind, phrase_closed, viable_ok, viable_over, viable_loose, viable_bind, viable_made, viable_found_or_stuck, viable_front, viable_closed, counted}

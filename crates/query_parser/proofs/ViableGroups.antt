@@ -8,9 +8,10 @@ use Rattle.semantics.specs.declared.token.Sign.TheVariants as s
 use Rattle.query_lexer.specs.Options.{choose}
 use Rattle.semantics.specs.Syntax.{ElementForm, set, rollup, cube, sets, element_forms}
 use Rattle.query_parser.specs.Inside.Fronts.{is_word, is_sign, after}
-use Rattle.query_parser.specs.Inside.Steps.{◌>>=◌, Reader, found_or_unexpected, more, name_at, begins_name}
+use Rattle.query_parser.specs.Inside.Steps.{Reader, found_or_unexpected, more, name_at, begins_name}
 use Rattle.semantics.specs.Leaves.{Derivation, IsRepeated, IsName}
 use Rattle.semantics.specs.Grammar.{IsUnit, IsSet, IsElement, IsGroup}
+use Rattle.values.specs.Results.{◌>>=◌}
 use Rattle.query_parser.specs.Inside.PredicateSteps.{any_front}
 use Rattle.query_parser.specs.Inside.GroupSteps.{all_at, enclosed_at, begins_unit, unit_at, units_at, nothing_at, set_at, element_at, sets_at, group_at}
 use Rattle.query_parser.proofs.Heads.{after_word_is, after_sign_is}

@@ -9,8 +9,9 @@ use Rattle.semantics.specs.Syntax.{ExpressionForm, KeyForm}
 use Rattle.semantics.specs.Leaves.{Limits, standard, Derivation}
 use Rattle.semantics.specs.Productions.{IsExpression, IsPredicate}
 use Rattle.semantics.specs.Grammar.{IsDirection, IsNullOrdering, IsKey, IsOrderBy}
+use Rattle.values.specs.Results.{◌>>=◌}
 use Rattle.query_parser.specs.Inside.Fronts.{is_word, after}
-use Rattle.query_parser.specs.Inside.Steps.{◌>>=◌, Reader, found_or_unexpected}
+use Rattle.query_parser.specs.Inside.Steps.{Reader, found_or_unexpected}
 use Rattle.query_parser.specs.Inside.ExpressionSteps.{expression_at, begins_expression}
 use Rattle.query_parser.specs.Inside.PredicateSteps.{inside_of}
 use Rattle.query_parser.specs.Inside.GroupSteps.{all_at}

@@ -16,9 +16,10 @@ use Rattle.semantics.specs.declared.aggregate.Aggregate.TheVariants as aggregate
 use Rattle.semantics.specs.declared.literal.Literal.{Literal}
 use Rattle.semantics.specs.declared.literal.Literal.TheVariants as literals
 use Rattle.query_parser.specs.Inside.Fronts.{is_word, is_sign, after}
-use Rattle.query_parser.specs.Inside.Steps.{◌>>=◌, Reader, unexpected_at, found_or_unexpected, more, listed_at, name_at, begins_name}
+use Rattle.query_parser.specs.Inside.Steps.{Reader, unexpected_at, found_or_unexpected, more, listed_at, name_at, begins_name}
 use Rattle.query_parser.specs.Inside.LeafSteps.{closed_name_at, argument_at, counted_name_at, count_at, aggregate_at, arguments_at, literal_at, begins_literal, literals_at, op_at, truth_at, mark_at}
 use Rattle.semantics.specs.Leaves.{Limits, standard, Derivation, IsName, IsAggregate, IsLiteral, IsOp, IsTruthValue, IsRepeated, IsOptional}
+use Rattle.values.specs.Results.{◌>>=◌}
 use Rattle.query_parser.proofs.Heads.{after_word_is, after_sign_is}
 use Rattle.query_parser.proofs.Viable.{Phrase, Viable, Finds, BeginsPart, TellsPart, AtMost, Listed, Closed, Enclosed, counted, phrase_listed, viable_ok, viable_stuck, viable_as, viable_same, viable_made, viable_choose, viable_found_or_stuck, viable_found_or_stuck_front, viable_more, viable_listed, viable_closed, viable_enclosed}
 

@@ -6,12 +6,13 @@ use Rattle.semantics.specs.declared.token.Word.TheVariants as w
 use Rattle.semantics.specs.declared.token.Sign.TheVariants as s
 use Rattle.semantics.specs.Syntax.{PredicateForm, not_of, column}
 use Rattle.query_parser.specs.Inside.Fronts.{is_word, is_sign, after}
-use Rattle.query_parser.specs.Inside.Steps.{◌>>=◌, Reader, found_or_unexpected, more}
+use Rattle.query_parser.specs.Inside.Steps.{Reader, found_or_unexpected, more}
 use Rattle.query_parser.specs.Inside.AtomSteps.{test_after, tested_atom_at}
 use Rattle.query_parser.specs.Inside.ExpressionSteps.{Inside}
 use Rattle.query_parser.specs.Inside.PredicateSteps.{test_at, negation_at, conjunction_at, disjunction_at, has_level, predicate_at, any_front, inside_of}
 use Rattle.semantics.specs.Leaves.{standard, Derivation, IsRepeated}
 use Rattle.semantics.specs.Productions.{IsAtom, IsPrimary, IsTest, IsNegation, IsConjunction, IsDisjunction, IsPredicate, conjunction_of, disjunction_of}
+use Rattle.values.specs.Results.{◌>>=◌}
 use Rattle.query_parser.proofs.Heads.{after_word_is, after_sign_is}
 use Rattle.query_parser.proofs.Viable.{Phrase, Viable, viable_over, viable_loose, viable_as, viable_bind, viable_made, viable_choose, viable_found_or_stuck, viable_all}
 use Rattle.query_parser.proofs.ViableLeaves.{limits_of, viable_word}

@@ -14,9 +14,10 @@ use Rattle.semantics.specs.Syntax.{ExpressionForm, PredicateForm, ElementForm, I
 use Rattle.semantics.specs.Leaves.{Limits, standard, Derivation, IsRepeated, IsName, IsOptional}
 use Rattle.semantics.specs.Productions.{IsExpression, IsPredicate}
 use Rattle.semantics.specs.Grammar.{IsItem, IsGroup, IsGroupBy, IsOrderBy, IsQuery, IsClause}
+use Rattle.values.specs.Results.{◌>>=◌}
 use Rattle.query_parser.specs.Inside.Stops.{Stop}
 use Rattle.query_parser.specs.Inside.Fronts.{is_word, is_sign, after}
-use Rattle.query_parser.specs.Inside.Steps.{◌>>=◌, Reader, unexpected_at, found_or_unexpected, more, name_at}
+use Rattle.query_parser.specs.Inside.Steps.{Reader, unexpected_at, found_or_unexpected, more, name_at}
 use Rattle.query_parser.specs.Inside.ExpressionSteps.{begins_expression}
 use Rattle.query_parser.specs.Inside.PredicateSteps.{predicate_at, any_front}
 use Rattle.query_parser.specs.Inside.GroupSteps.{all_at, group_at}

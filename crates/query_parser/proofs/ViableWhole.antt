@@ -10,9 +10,9 @@ use Rattle.semantics.specs.Syntax.{TreeForm}
 use Rattle.semantics.specs.Leaves.{Limits, standard}
 use Rattle.semantics.specs.Grammar.{IsQuery, DerivesWithin}
 use Rattle.semantics.specs.Prefixes.{BeginsWithin, Begins, KeepsLimits}
+use Rattle.values.specs.Results.{◌>>=◌}
 use Rattle.query_parser.specs.Inside.Stops.{Stop}
 use Rattle.query_parser.specs.Inside.Stops as halts
-use Rattle.query_parser.specs.Inside.Steps.{◌>>=◌}
 use Rattle.query_parser.specs.Inside.QuerySteps.{query_at, at_end, whole_at}
 use Rattle.query_parser.proofs.Inversions.{bind_ok, ok_is}
 use Rattle.query_parser.proofs.Viable.{Reaches, Claimed, Uncounted, counted, ends_counted}

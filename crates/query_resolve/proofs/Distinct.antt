@@ -4,10 +4,7 @@ use Rattle.std.specs.Prelude.{filter}
 use Rattle.std.specs.List.{list_any}
 use Rattle.std.proofs.lemmas.Bool.Decides.{nat_tests}
 use Rattle.std.proofs.lemmas.List.{append-nil, take_more}
-use Rattle.semantics.specs.declared.function.ColumnFunction.{ColumnFunction}
-use Rattle.semantics.specs.declared.function.ColumnFunction.TheVariants as at
 use Rattle.semantics.specs.Names.{distinct}
-use Rattle.semantics.specs.Inside.Same.{same_function}
 
 -- A filter of a list with one element more.
 filter_push : {A : Type 0} (k : A → Bool) (xs : List A) (z : A) → filter k (xs ++ z ∷ []) ≡ filter k xs ++ cond (k z) (z ∷ []) []
@@ -76,14 +73,3 @@ same_read (x ∷ xs) (suc i) d e below = same_read xs i d e (omega arith)
 -- Places that are the same are equal.
 pub same_place : (a b : ℕ) → (a == b) ≡ true → a ≡ b
 same_place a b h = grind (arith, nat_tests)
-
--- Set functions that are the same are equal.
-pub same_functions : (f g : ColumnFunction) → same_function f g ≡ true → f ≡ g
-same_functions at.CountRows at.CountRows h = refl
-same_functions (at.Count a) (at.Count b) h = ap at.Count (same_place a b h)
-same_functions (at.CountDistinct a) (at.CountDistinct b) h = ap at.CountDistinct (same_place a b h)
-same_functions (at.Sum a) (at.Sum b) h = ap at.Sum (same_place a b h)
-same_functions (at.Min a) (at.Min b) h = ap at.Min (same_place a b h)
-same_functions (at.Max a) (at.Max b) h = ap at.Max (same_place a b h)
-same_functions (at.Avg a) (at.Avg b) h = ap at.Avg (same_place a b h)
-same_functions f g h = absurd cc

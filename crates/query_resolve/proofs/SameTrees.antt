@@ -1,274 +1,260 @@
--- What passes a test of sameness is equal, and what is equal passes it.
-use Rattle.std.proofs.Common.{◌≡◌, ◌∙◌, ℕ, Bool, true, false, ◌&&◌, ◌==◌, List, [], ◌∷◌, length, map, Option, Some, None, Decides, refl, ap, arith}
-use Rattle.std.specs.Cmp.{signed_Decides}
-use Rattle.std.specs.Str.{bytes_eq}
-use Rattle.std.proofs.lemmas.Bool.Decides.{nat_tests}
-use Rattle.std.proofs.lemmas.Slice.Eq.{bytes_eq-Decides}
-use Rattle.semantics.specs.declared.comparison.Op.{Op}
-use Rattle.semantics.specs.declared.comparison.Op.TheVariants as op
-use Rattle.semantics.specs.declared.truth.Truth.{Truth}
-use Rattle.semantics.specs.declared.truth.Truth.TheVariants as truth
-use Rattle.semantics.specs.declared.aggregate.Aggregate.{Aggregate}
-use Rattle.semantics.specs.declared.aggregate.Aggregate.TheVariants as aggregate
+-- What is the same is equal, and `==` of two predicates says whether their forms are.
+use Rattle.std.proofs.Common.{◌≡◌, ◌∙◌, ℕ, zero, suc, Bool, true, false, ◌&&◌, ◌+◌, ◌<◌, List, [], ◌∷◌, map, Option, Some, None, Box, Decides, refl, ap, sym, arith, rules}
+use denote.Hole.Compared.{Rel, settled, within}
+use lib.Pointwise.{pointwise}
+use Rattle.std.specs.Cmp.{booleans_Decides}
+use Rattle.std.specs.Global.{Global}
+use Rattle.std.specs.Option.{option_eq}
+use Rattle.std.proofs.lemmas.Bool.Decides.{same_from_decides}
+use Rattle.std.proofs.lemmas.Slice.Eq.{bytes_eq-Decides, slice_eq-Decides}
+use Rattle.query_ast.specs.contracts.expression.PredicatePartialEq.TheImpl.{the_step, eq-value}
+use Rattle.query_ast.specs.contracts.expression.PredicatePartialEq.TheImpl.Laws.{local}
+use Rattle.semantics.specs.contracts.comparison.OpPartialEq.TheImpl as op
+use Rattle.semantics.specs.contracts.truth.TruthPartialEq.TheImpl as truth
+use Rattle.semantics.specs.contracts.literal.LiteralPartialEq.TheImpl as constant
+use Rattle.semantics.specs.contracts.aggregate.AggregatePartialEq.TheImpl as aggregate
+use Rattle.semantics.specs.contracts.function.ColumnFunctionPartialEq.TheImpl as column_function
+use Rattle.query_ast.specs.declared.expression.Expression.TheBlock.{the_members, the_family, the_depth, member-Predicate, member-Expression, member-Operand, member-SetFunction}
+use Rattle.query_ast.specs.declared.expression.Expression.TheBlock as block
+use Rattle.query_ast.specs.declared.expression.Expression.TheViews.{out-Predicate, out-Operand, out-Expression, out-SetFunction}
+use Rattle.query_ast.specs.declared.expression.Expression.TheFolds.{fold_out-Predicate, fold_out-Operand, fold_out-Expression, fold_out-SetFunction, map-Predicate, map-Operand, map-Expression, map-SetFunction}
+use Rattle.query_ast.specs.declared.expression.Expression.TheOpen.{Predicate-F, Operand-F, Expression-F, SetFunction-F}
+use Rattle.query_ast.specs.declared.expression.Expression.TheOpen as layer
+use Rattle.query_ast.specs.declared.expression.Expression.{Expression}
 use Rattle.query_ast.specs.declared.expression.Predicate.{Predicate}
+use Rattle.query_ast.specs.declared.expression.Operand.{Operand}
+use Rattle.query_ast.specs.declared.expression.SetFunction.{SetFunction}
+use Rattle.semantics.specs.declared.comparison.Op.{Op}
+use Rattle.semantics.specs.declared.truth.Truth.{Truth}
 use Rattle.semantics.specs.declared.literal.Literal.{Literal}
-use Rattle.semantics.specs.declared.literal.Literal.TheVariants as constant
-use Rattle.semantics.specs.Syntax.{ExpressionForm, FunctionForm, OperandForm, PredicateForm, PredicateForms, name, grouping, function, over_all, over_filtered, expression, literal, or_of, and_of, not_of, truth_test, compare, between, member, null_test, column, no_parts, part, predicate_forms}
-use Rattle.query_ast.specs.Syntax.{predicate_form}
+use Rattle.semantics.specs.declared.aggregate.Aggregate.{Aggregate}
 use Rattle.semantics.specs.declared.function.ColumnFunction.{ColumnFunction}
-use Rattle.semantics.specs.declared.function.ColumnFunction.TheVariants as at
-use Rattle.semantics.specs.Inside.Same.{same_aggregate, same_expression, same_literal, same_literals, same_mark, same_names, same_op, same_operand, same_parts, same_predicate, same_set_function, same_truth_value, same_filter, same_function, same_planned}
 use Rattle.semantics.specs.Names.{PlannedFunction}
-use Rattle.query_resolve.proofs.Distinct.{same_functions}
+use Rattle.semantics.specs.Syntax.{ExpressionForm, FunctionForm, OperandForm, PredicateForm, PredicateForms, name, grouping, function, over_all, over_filtered, expression, literal, or_of, and_of, not_of, truth_test, compare, between, member, null_test, column, no_parts, part, predicate_forms}
+use Rattle.query_ast.specs.Syntax.{expression_form, function_form, operand_form, predicate_form, expression_step, function_step, operand_step, predicate_step}
+use Rattle.semantics.specs.Inside.Same.{same_expression, same_filter, same_operand, same_parts, same_planned, same_predicate, same_set_function}
 
--- ---- tests in a row
+-- ---- decisions
 
--- Where two tests hold together, each holds.
-pub both_hold : (a b : Bool) → (a && b) ≡ true → (a ≡ true) × (b ≡ true)
-both_hold true b h = (refl, h)
-both_hold false b h = absurd cc
+-- What is decided of one proposition is decided of another that holds where it does.
+via : {P Q : Type 0} {b : Bool} → (P → Q) → (Q → P) → Decides b P → Decides b Q
+via f g d = (λ h. f (d.0 h), λ q. d.1 (g q))
 
--- Where each of two tests holds, both hold together.
-pub hold_both : (a b : Bool) → a ≡ true → b ≡ true → (a && b) ≡ true
-hold_both a b g h = rw (g, h) refl
+-- Two decisions, of both at once.
+both : {P Q : Type 0} (b c : Bool) → Decides b P → Decides c Q → Decides (b && c) (P × Q)
+both true c d e = (λ h. (d.0 refl, e.0 h), λ k. e.1 k.1)
+both false c d e = (λ h. absurd cc, λ k. d.1 k.0)
+
+never : Decides false ⊥
+never = (λ h. absurd cc, λ h. absurd h)
+
+always : Decides true (Unit {0})
+always = (λ h. tt, λ h. refl)
 
 -- ---- leaves
 
--- Texts that are the same are equal.
-texts_are_same : (s r : List ℕ) → bytes_eq s r ≡ true → s ≡ r
-texts_are_same s r h = (bytes_eq-Decides s r).0 h
+ops : (a b : Op) → Decides (op.eq-value.it a b) (a ≡ b)
+ops a b = search rules
 
--- A text is the same as itself.
-text_itself : (s : List ℕ) → bytes_eq s s ≡ true
-text_itself s = (bytes_eq-Decides s s).1 refl
+truths : (a b : Truth) → Decides (truth.eq-value.it a b) (a ≡ b)
+truths a b = search rules
 
-marks_are_same : (b c : Bool) → same_mark b c ≡ true → b ≡ c
-marks_are_same true true h = refl
-marks_are_same false false h = refl
-marks_are_same true false h = absurd cc
-marks_are_same false true h = absurd cc
+literals : (a b : Literal) → Decides (constant.eq-value.it a b) (a ≡ b)
+literals a b = search rules
 
-mark_itself : (b : Bool) → same_mark b b ≡ true
-mark_itself true = refl
-mark_itself false = refl
+aggregates : (a b : Aggregate) → Decides (aggregate.eq-value.it a b) (a ≡ b)
+aggregates a b = search rules
 
-ops_are_same : (o r : Op) → same_op o r ≡ true → o ≡ r
-ops_are_same op.Eq op.Eq h = refl
-ops_are_same op.Ne op.Ne h = refl
-ops_are_same op.Lt op.Lt h = refl
-ops_are_same op.Le op.Le h = refl
-ops_are_same op.Gt op.Gt h = refl
-ops_are_same op.Ge op.Ge h = refl
-ops_are_same o r h = absurd cc
+column_functions : (a b : ColumnFunction) → Decides (column_function.eq-value.it a b) (a ≡ b)
+column_functions a b = search rules
 
-op_itself : (o : Op) → same_op o o ≡ true
-op_itself op.Eq = refl
-op_itself op.Ne = refl
-op_itself op.Lt = refl
-op_itself op.Le = refl
-op_itself op.Gt = refl
-op_itself op.Ge = refl
+-- ---- predicates and set functions
 
-truths_are_same : (t u : Truth) → same_truth_value t u ≡ true → t ≡ u
-truths_are_same truth.True truth.True h = refl
-truths_are_same truth.Unknown truth.Unknown h = refl
-truths_are_same truth.False truth.False h = refl
-truths_are_same t u h = absurd cc
-
-truth_itself : (t : Truth) → same_truth_value t t ≡ true
-truth_itself truth.True = refl
-truth_itself truth.Unknown = refl
-truth_itself truth.False = refl
-
-literals_are_same : (a b : Literal) → same_literal a b ≡ true → a ≡ b
-literals_are_same (constant.Integer i) (constant.Integer j) h = ap constant.Integer ((signed_Decides i j).0 h)
-literals_are_same (constant.Text s) (constant.Text r) h = ap constant.Text (texts_are_same s r h)
-literals_are_same (constant.Truth b) (constant.Truth c) h = ap constant.Truth (marks_are_same b c h)
-literals_are_same a b h = absurd cc
-
-literal_itself : (a : Literal) → same_literal a a ≡ true
-literal_itself (constant.Integer i) = (signed_Decides i i).1 refl
-literal_itself (constant.Text s) = text_itself s
-literal_itself (constant.Truth b) = mark_itself b
-
-lists_of_literals : (ls rs : List Literal) → same_literals ls rs ≡ true → ls ≡ rs
-lists_of_literals [] [] h = refl
-lists_of_literals [] (b ∷ rs) h = absurd cc
-lists_of_literals (a ∷ ls) [] h = absurd cc
-lists_of_literals (a ∷ ls) (b ∷ rs) h =
-    let k = both_hold (same_literal a b) (same_literals ls rs) h in
-    ap (λ (x : Literal). x ∷ ls) (literals_are_same a b k.0) ∙ ap (λ (xs : List Literal). b ∷ xs) (lists_of_literals ls rs k.1)
-
-list_of_literals_itself : (ls : List Literal) → same_literals ls ls ≡ true
-list_of_literals_itself [] = refl
-list_of_literals_itself (a ∷ ls) = hold_both (same_literal a a) (same_literals ls ls) (literal_itself a) (list_of_literals_itself ls)
-
-lists_of_names : (ns ms : List (List ℕ)) → same_names ns ms ≡ true → ns ≡ ms
-lists_of_names [] [] h = refl
-lists_of_names [] (m ∷ ms) h = absurd cc
-lists_of_names (n ∷ ns) [] h = absurd cc
-lists_of_names (n ∷ ns) (m ∷ ms) h =
-    let k = both_hold (bytes_eq n m) (same_names ns ms) h in
-    ap (λ (x : List ℕ). x ∷ ns) (texts_are_same n m k.0) ∙ ap (λ (xs : List (List ℕ)). m ∷ xs) (lists_of_names ns ms k.1)
-
-list_of_names_itself : (ns : List (List ℕ)) → same_names ns ns ≡ true
-list_of_names_itself [] = refl
-list_of_names_itself (n ∷ ns) = hold_both (bytes_eq n n) (same_names ns ns) (text_itself n) (list_of_names_itself ns)
-
-aggregates_are_same : (a b : Aggregate) → same_aggregate a b ≡ true → a ≡ b
-aggregates_are_same aggregate.CountRows aggregate.CountRows h = refl
-aggregates_are_same (aggregate.Count x) (aggregate.Count y) h = ap aggregate.Count (texts_are_same x y h)
-aggregates_are_same (aggregate.CountDistinct x) (aggregate.CountDistinct y) h = ap aggregate.CountDistinct (texts_are_same x y h)
-aggregates_are_same (aggregate.Sum x) (aggregate.Sum y) h = ap aggregate.Sum (texts_are_same x y h)
-aggregates_are_same (aggregate.Min x) (aggregate.Min y) h = ap aggregate.Min (texts_are_same x y h)
-aggregates_are_same (aggregate.Max x) (aggregate.Max y) h = ap aggregate.Max (texts_are_same x y h)
-aggregates_are_same (aggregate.Avg x) (aggregate.Avg y) h = ap aggregate.Avg (texts_are_same x y h)
-aggregates_are_same a b h = absurd cc
-
-aggregate_itself : (a : Aggregate) → same_aggregate a a ≡ true
-aggregate_itself aggregate.CountRows = refl
-aggregate_itself (aggregate.Count x) = text_itself x
-aggregate_itself (aggregate.CountDistinct x) = text_itself x
-aggregate_itself (aggregate.Sum x) = text_itself x
-aggregate_itself (aggregate.Min x) = text_itself x
-aggregate_itself (aggregate.Max x) = text_itself x
-aggregate_itself (aggregate.Avg x) = text_itself x
-
--- ---- trees that are the same are equal
-
+-- Two predicates are the same exactly where they are equal, and so for what stands in them.
 mutual
-  pub predicates_are_same : (p q : PredicateForm) → same_predicate p q ≡ true → p ≡ q
-  predicates_are_same (or_of ps) (or_of qs) h = ap or_of (parts_are_same ps qs h)
-  predicates_are_same (and_of ps) (and_of qs) h = ap and_of (parts_are_same ps qs h)
-  predicates_are_same (not_of p) (not_of q) h = ap not_of (predicates_are_same p q h)
-  predicates_are_same (truth_test p n t) (truth_test q m u) h =
-      let k = both_hold (same_predicate p q) (same_mark n m && same_truth_value t u) h in
-      let l = both_hold (same_mark n m) (same_truth_value t u) k.1 in
-      let e = predicates_are_same p q k.0 in let f = marks_are_same n m l.0 in let g = truths_are_same t u l.1 in cc
-  predicates_are_same (compare x o y) (compare z r w) h =
-      let k = both_hold (same_operand x z) (same_op o r && same_operand y w) h in
-      let l = both_hold (same_op o r) (same_operand y w) k.1 in
-      let e = operands_are_same x z k.0 in let f = ops_are_same o r l.0 in let g = operands_are_same y w l.1 in cc
-  predicates_are_same (between x n y z) (between u m v w) h =
-      let k = both_hold (same_operand x u) (same_mark n m && (same_operand y v && same_operand z w)) h in
-      let l = both_hold (same_mark n m) (same_operand y v && same_operand z w) k.1 in
-      let i = both_hold (same_operand y v) (same_operand z w) l.1 in
-      let e = operands_are_same x u k.0 in let f = marks_are_same n m l.0 in let g = operands_are_same y v i.0 in let j = operands_are_same z w i.1 in cc
-  predicates_are_same (member x n ls) (member y m rs) h =
-      let k = both_hold (same_operand x y) (same_mark n m && same_literals ls rs) h in
-      let l = both_hold (same_mark n m) (same_literals ls rs) k.1 in
-      let e = operands_are_same x y k.0 in let f = marks_are_same n m l.0 in let g = lists_of_literals ls rs l.1 in cc
-  predicates_are_same (null_test x n) (null_test y m) h =
-      let k = both_hold (same_operand x y) (same_mark n m) h in
-      let e = operands_are_same x y k.0 in let f = marks_are_same n m k.1 in cc
-  predicates_are_same (column n) (column m) h = ap column (texts_are_same n m h)
-  predicates_are_same p q h = absurd cc
+  pub same_predicate-Decides : (p q : PredicateForm) → Decides (same_predicate p q) (p ≡ q)
+  same_predicate-Decides (or_of ps) (or_of qs) = via (λ k. ap or_of k) (λ f. cc) (same_parts-Decides ps qs)
+  same_predicate-Decides (and_of ps) (and_of qs) = via (λ k. ap and_of k) (λ f. cc) (same_parts-Decides ps qs)
+  same_predicate-Decides (not_of p) (not_of q) = via (λ k. ap not_of k) (λ f. cc) (same_predicate-Decides p q)
+  same_predicate-Decides (truth_test p n t) (truth_test q m u) =
+      via (λ k. let f = k.0 in let g = k.1.0 in let h = k.1.1 in cc) (λ f. (cc, (cc, cc))) (both _ _ (same_predicate-Decides p q) (both _ _ (booleans_Decides n m) (truths t u)))
+  same_predicate-Decides (compare x o y) (compare z r w) =
+      via (λ k. let f = k.0 in let g = k.1.0 in let h = k.1.1 in cc) (λ f. (cc, (cc, cc))) (both _ _ (same_operand-Decides x z) (both _ _ (ops o r) (same_operand-Decides y w)))
+  same_predicate-Decides (between x n y z) (between u m v w) =
+      via (λ k. let f = k.0 in let g = k.1.0 in let h = k.1.1.0 in let j = k.1.1.1 in cc) (λ f. (cc, (cc, (cc, cc))))
+      (both _ _ (same_operand-Decides x u) (both _ _ (booleans_Decides n m) (both _ _ (same_operand-Decides y v) (same_operand-Decides z w))))
+  same_predicate-Decides (member x n ls) (member y m rs) =
+      via (λ k. let f = k.0 in let g = k.1.0 in let h = k.1.1 in cc) (λ f. (cc, (cc, cc)))
+      (both _ _ (same_operand-Decides x y) (both _ _ (booleans_Decides n m) (slice_eq-Decides literals ls rs _ refl)))
+  same_predicate-Decides (null_test x n) (null_test y m) = via (λ k. let f = k.0 in let g = k.1 in cc) (λ f. (cc, cc)) (both _ _ (same_operand-Decides x y) (booleans_Decides n m))
+  same_predicate-Decides (column n) (column m) = via (λ k. ap column k) (λ f. cc) (bytes_eq-Decides n m)
+  same_predicate-Decides p q = (λ h. absurd cc, λ h. absurd cc)
 
-  parts_are_same : (ps qs : PredicateForms) → same_parts ps qs ≡ true → ps ≡ qs
-  parts_are_same no_parts no_parts h = refl
-  parts_are_same no_parts (part q qs) h = absurd cc
-  parts_are_same (part p ps) no_parts h = absurd cc
-  parts_are_same (part p ps) (part q qs) h =
-      let k = both_hold (same_predicate p q) (same_parts ps qs) h in
-      let e = predicates_are_same p q k.0 in let f = parts_are_same ps qs k.1 in cc
+  same_parts-Decides : (ps qs : PredicateForms) → Decides (same_parts ps qs) (ps ≡ qs)
+  same_parts-Decides no_parts no_parts = (λ h. refl, λ h. refl)
+  same_parts-Decides (part p ps) (part q qs) = via (λ k. let e = k.0 in let f = k.1 in cc) (λ e. (cc, cc)) (both _ _ (same_predicate-Decides p q) (same_parts-Decides ps qs))
+  same_parts-Decides ps qs = (λ h. absurd cc, λ h. absurd cc)
 
-  operands_are_same : (x y : OperandForm) → same_operand x y ≡ true → x ≡ y
-  operands_are_same (expression e) (expression d) h = ap expression (expressions_are_same e d h)
-  operands_are_same (literal a) (literal b) h = ap literal (literals_are_same a b h)
-  operands_are_same (expression e) (literal b) h = absurd cc
-  operands_are_same (literal a) (expression d) h = absurd cc
+  same_operand-Decides : (x y : OperandForm) → Decides (same_operand x y) (x ≡ y)
+  same_operand-Decides (expression e) (expression d) = via (λ k. ap expression k) (λ f. cc) (same_expression-Decides e d)
+  same_operand-Decides (literal a) (literal b) = via (λ k. ap literal k) (λ f. cc) (literals a b)
+  same_operand-Decides x y = (λ h. absurd cc, λ h. absurd cc)
 
-  expressions_are_same : (e d : ExpressionForm) → same_expression e d ≡ true → e ≡ d
-  expressions_are_same (name n) (name m) h = ap name (texts_are_same n m h)
-  expressions_are_same (grouping ns) (grouping ms) h = ap grouping (lists_of_names ns ms h)
-  expressions_are_same (function f) (function g) h = ap function (set_functions_are_same f g h)
-  expressions_are_same e d h = absurd cc
+  same_expression-Decides : (e d : ExpressionForm) → Decides (same_expression e d) (e ≡ d)
+  same_expression-Decides (name n) (name m) = via (λ k. ap name k) (λ f. cc) (bytes_eq-Decides n m)
+  same_expression-Decides (grouping ns) (grouping ms) = via (λ k. ap grouping k) (λ f. cc) (slice_eq-Decides bytes_eq-Decides ns ms _ refl)
+  same_expression-Decides (function f) (function g) = via (λ k. ap function k) (λ h. cc) (same_set_function-Decides f g)
+  same_expression-Decides e d = (λ h. absurd cc, λ h. absurd cc)
 
-  set_functions_are_same : (f g : FunctionForm) → same_set_function f g ≡ true → f ≡ g
-  set_functions_are_same (over_all a) (over_all b) h = ap over_all (aggregates_are_same a b h)
-  set_functions_are_same (over_filtered a p) (over_filtered b q) h =
-      let k = both_hold (same_aggregate a b) (same_predicate p q) h in
-      let e = aggregates_are_same a b k.0 in let f = predicates_are_same p q k.1 in cc
-  set_functions_are_same (over_all a) (over_filtered b q) h = absurd cc
-  set_functions_are_same (over_filtered a p) (over_all b) h = absurd cc
+  same_set_function-Decides : (f g : FunctionForm) → Decides (same_set_function f g) (f ≡ g)
+  same_set_function-Decides (over_all a) (over_all b) = via (λ k. ap over_all k) (λ h. cc) (aggregates a b)
+  same_set_function-Decides (over_filtered a p) (over_filtered b q) = via (λ k. let e = k.0 in let f = k.1 in cc) (λ e. (cc, cc)) (both _ _ (aggregates a b) (same_predicate-Decides p q))
+  same_set_function-Decides f g = (λ h. absurd cc, λ h. absurd cc)
 
--- ---- trees are the same as themselves
+pub predicates_are_same : (p q : PredicateForm) → same_predicate p q ≡ true → p ≡ q
+predicates_are_same p q h = (same_predicate-Decides p q).0 h
 
-mutual
-  pub predicate_itself : (p : PredicateForm) → same_predicate p p ≡ true
-  predicate_itself (or_of ps) = parts_itself ps
-  predicate_itself (and_of ps) = parts_itself ps
-  predicate_itself (not_of p) = predicate_itself p
-  predicate_itself (truth_test p n t) = hold_both (same_predicate p p) _ (predicate_itself p) (hold_both (same_mark n n) _ (mark_itself n) (truth_itself t))
-  predicate_itself (compare x o y) = hold_both (same_operand x x) _ (operand_itself x) (hold_both (same_op o o) _ (op_itself o) (operand_itself y))
-  predicate_itself (between x n y z) =
-      hold_both (same_operand x x) _ (operand_itself x) (hold_both (same_mark n n) _ (mark_itself n) (hold_both (same_operand y y) _ (operand_itself y) (operand_itself z)))
-  predicate_itself (member x n ls) = hold_both (same_operand x x) _ (operand_itself x) (hold_both (same_mark n n) _ (mark_itself n) (list_of_literals_itself ls))
-  predicate_itself (null_test x n) = hold_both (same_operand x x) _ (operand_itself x) (mark_itself n)
-  predicate_itself (column n) = text_itself n
+pub predicate_itself : (p : PredicateForm) → same_predicate p p ≡ true
+predicate_itself p = (same_predicate-Decides p p).1 refl
 
-  parts_itself : (ps : PredicateForms) → same_parts ps ps ≡ true
-  parts_itself no_parts = refl
-  parts_itself (part p ps) = hold_both (same_predicate p p) _ (predicate_itself p) (parts_itself ps)
-
-  operand_itself : (x : OperandForm) → same_operand x x ≡ true
-  operand_itself (expression e) = expression_itself e
-  operand_itself (literal a) = literal_itself a
-
-  expression_itself : (e : ExpressionForm) → same_expression e e ≡ true
-  expression_itself (name n) = text_itself n
-  expression_itself (grouping ns) = list_of_names_itself ns
-  expression_itself (function f) = set_function_itself f
-
-  set_function_itself : (f : FunctionForm) → same_set_function f f ≡ true
-  set_function_itself (over_all a) = aggregate_itself a
-  set_function_itself (over_filtered a p) = hold_both (same_aggregate a a) _ (aggregate_itself a) (predicate_itself p)
-
--- Two predicates are the same exactly where they are equal.
-pub same_predicate-Decides : (p q : PredicateForm) → Decides (same_predicate p q) (p ≡ q)
-same_predicate-Decides p q = (predicates_are_same p q, λ e. ap (λ (r : PredicateForm). same_predicate r q) e ∙ predicate_itself q)
-
--- ---- planned functions
-
-filters_are_same : (o r : Option PredicateForm) → same_filter o r ≡ true → o ≡ r
-filters_are_same None None h = refl
-filters_are_same None (Some q) h = absurd cc
-filters_are_same (Some p) None h = absurd cc
-filters_are_same (Some p) (Some q) h = ap Some (predicates_are_same p q h)
-
--- Set functions that are the same are equal.
-pub planned_are_same : (f g : PlannedFunction) → same_planned f g ≡ true → f ≡ g
-planned_are_same f g h =
-    let k = both_hold (same_function f.function g.function) (same_filter f.filter g.filter) h in
-    let made : ColumnFunction → Option PredicateForm → PlannedFunction = λ x o. record { function = x; filter = o } in
-    ap (λ (x : ColumnFunction). made x f.filter) (same_functions f.function g.function k.0) ∙ ap (made g.function) (filters_are_same f.filter g.filter k.1)
-
--- A set function without its filter is the same as itself.
-function_of_column_itself : (f : ColumnFunction) → same_function f f ≡ true
-function_of_column_itself at.CountRows = refl
-function_of_column_itself (at.Count a) = grind (arith, nat_tests)
-function_of_column_itself (at.CountDistinct a) = grind (arith, nat_tests)
-function_of_column_itself (at.Sum a) = grind (arith, nat_tests)
-function_of_column_itself (at.Min a) = grind (arith, nat_tests)
-function_of_column_itself (at.Max a) = grind (arith, nat_tests)
-function_of_column_itself (at.Avg a) = grind (arith, nat_tests)
-
--- A filter is the same as itself, and so is none.
-filter_itself : (o : Option PredicateForm) → same_filter o o ≡ true
-filter_itself None = refl
-filter_itself (Some p) = predicate_itself p
+same_filter-Decides : (o r : Option PredicateForm) → Decides (same_filter o r) (o ≡ r)
+same_filter-Decides None None = (λ h. refl, λ h. refl)
+same_filter-Decides None (Some q) = (λ h. absurd cc, λ h. absurd cc)
+same_filter-Decides (Some p) None = (λ h. absurd cc, λ h. absurd cc)
+same_filter-Decides (Some p) (Some q) = via (λ k. ap Some k) (λ e. cc) (same_predicate-Decides p q)
 
 -- Two set functions are the same exactly where they are equal.
 pub same_planned-Decides : (f g : PlannedFunction) → Decides (same_planned f g) (f ≡ g)
-same_planned-Decides f g = (
-  planned_are_same f g,
-  λ e. ap (λ (h : PlannedFunction). same_planned h g) e
-      ∙ hold_both (same_function g.function g.function) (same_filter g.filter g.filter) (function_of_column_itself g.function) (filter_itself g.filter),
-)
+same_planned-Decides f g =
+    via (λ k i. record { function = k.0 i; filter = k.1 i }) (λ e. (ap (λ (h : PlannedFunction). h.function) e, ap (λ (h : PlannedFunction). h.filter) e))
+    (both _ _ (column_functions f.function g.function) (same_filter-Decides f.filter g.filter))
 
--- ---- lists
+pub planned_are_same : (f g : PlannedFunction) → same_planned f g ≡ true → f ≡ g
+planned_are_same f g h = (same_planned-Decides f g).0 h
 
--- Behind the last part there is none.
-pub parts_end : (left : List Predicate) → (length left == 0) ≡ same_parts no_parts (predicate_forms (map predicate_form left))
-parts_end [] = refl
-parts_end (p ∷ left) = grind (arith, nat_tests)
+-- A test that says whether two set functions are equal, apart from their filters, is the one that is defined.
+pub same_functions : (f g : ColumnFunction) (b : Bool) → Decides b (f ≡ g) → b ≡ column_function.eq-value.it f g
+same_functions f g b d = same_from_decides _ _ d (column_functions f g)
+
+-- ---- trees
+
+-- Whether two trees of each kind are the same: where predicates are that have nothing else to differ in.
+abbrev same_trees : Rel the_members the_family the_depth Bool
+same_trees member-Predicate d e = same_predicate (predicate_form d) (predicate_form e)
+same_trees member-Operand d e = same_predicate (null_test (operand_form d) true) (null_test (operand_form e) true)
+same_trees member-Expression d e = same_predicate (null_test (expression (expression_form d)) true) (null_test (expression (expression_form e)) true)
+same_trees member-SetFunction d e = same_predicate (null_test (expression (function (function_form d))) true) (null_test (expression (function (function_form e))) true)
+
+predicates : (d e : Predicate) → Decides (same_trees member-Predicate d e) (predicate_form d ≡ predicate_form e)
+predicates d e = same_predicate-Decides _ _
+
+operands : (d e : Operand) → Decides (same_trees member-Operand d e) (operand_form d ≡ operand_form e)
+operands d e = via (λ h. cc) (λ h. ap (λ x. null_test x true) h) (same_predicate-Decides _ _)
+
+expressions : (d e : Expression) → Decides (same_trees member-Expression d e) (expression_form d ≡ expression_form e)
+expressions d e = via (λ h. cc) (λ h. ap (λ x. null_test (expression x) true) h) (same_predicate-Decides _ _)
+
+functions : (d e : SetFunction) → Decides (same_trees member-SetFunction d e) (function_form d ≡ function_form e)
+functions d e = via (λ h. cc) (λ h. ap (λ x. null_test (expression (function x)) true) h) (same_predicate-Decides _ _)
+
+parts : (xs ys : List Predicate) → Decides (pointwise (same_trees member-Predicate) xs ys) (predicate_forms (map predicate_form xs) ≡ predicate_forms (map predicate_form ys))
+parts [] [] = (λ h. refl, λ h. refl)
+parts [] (y ∷ ys) = (λ h. absurd cc, λ h. absurd cc)
+parts (x ∷ xs) [] = (λ h. absurd cc, λ h. absurd cc)
+parts (x ∷ xs) (y ∷ ys) = via (λ k. let e = k.0 in let f = k.1 in cc) (λ e. (cc, cc)) (both _ _ (predicates x y) (parts xs ys))
+
+-- ---- what the derived `==` computes of two trees, where that of what they hold is known
+
+abbrev operand_seen : Operand-F Expression Operand Predicate SetFunction → OperandForm
+operand_seen x = operand_step (map-Operand _ _ _ _ _ _ _ _ expression_form operand_form predicate_form function_form x)
+
+operand_is : (d : Operand) → operand_form d ≡ operand_seen (out-Operand d)
+operand_is d = fold_out-Operand _ _ _ _ _ _ _ _ d
+
+abbrev expression_seen : Expression-F Expression Operand Predicate SetFunction → ExpressionForm
+expression_seen x = expression_step (map-Expression _ _ _ _ _ _ _ _ expression_form operand_form predicate_form function_form x)
+
+expression_is : (d : Expression) → expression_form d ≡ expression_seen (out-Expression d)
+expression_is d = fold_out-Expression _ _ _ _ _ _ _ _ d
+
+abbrev function_seen : SetFunction-F Expression Operand Predicate SetFunction → FunctionForm
+function_seen x = function_step (map-SetFunction _ _ _ _ _ _ _ _ expression_form operand_form predicate_form function_form x)
+
+function_is : (d : SetFunction) → function_form d ≡ function_seen (out-SetFunction d)
+function_is d = fold_out-SetFunction _ _ _ _ _ _ _ _ d
+
+abbrev Layer : Type 0
+Layer = Predicate-F Expression Operand Predicate SetFunction
+
+abbrev seen : Layer → PredicateForm
+seen x = predicate_step (map-Predicate _ _ _ _ _ _ _ _ expression_form operand_form predicate_form function_form x)
+
+seen_is : (d : Predicate) (x : Layer) → out-Predicate d ≡ x → predicate_form d ≡ seen x
+seen_is d x p = fold_out-Predicate _ _ _ _ _ _ _ _ d ∙ ap seen p
+
+predicate_layers : (x y : Layer) (d e : Predicate) → out-Predicate d ≡ x → out-Predicate e ≡ y → Decides (the_step same_trees member-Predicate d e) (seen x ≡ seen y)
+predicate_layers (layer.Or v) (layer.Or w) d e p q = rw (p, q) (via (λ k. ap or_of k) (λ f. cc) (parts v.items w.items))
+predicate_layers (layer.And v) (layer.And w) d e p q = rw (p, q) (via (λ k. ap and_of k) (λ f. cc) (parts v.items w.items))
+predicate_layers (layer.Not v) (layer.Not w) d e p q = rw (p, q) (via (λ k. ap not_of k) (λ f. cc) (predicates v.value w.value))
+predicate_layers (layer.Is v n t) (layer.Is w m u) d e p q =
+    rw (p, q) (via (λ k. let f = k.0 in let g = k.1.0 in let h = k.1.1 in cc) (λ f. (cc, (cc, cc))) (both _ _ (predicates v.value w.value) (both _ _ (booleans_Decides n m) (truths t u))))
+predicate_layers (layer.Compare x o y) (layer.Compare z r w) d e p q =
+    rw (p, q) (via (λ k. let f = k.0 in let g = k.1.0 in let h = k.1.1 in cc) (λ f. (cc, (cc, cc))) (both _ _ (operands x z) (both _ _ (ops o r) (operands y w))))
+predicate_layers (layer.Between x n y z) (layer.Between u m v w) d e p q =
+    rw (p, q)
+    (via (λ k. let f = k.0 in let g = k.1.0 in let h = k.1.1.0 in let j = k.1.1.1 in cc) (λ f. (cc, (cc, (cc, cc))))
+    (both _ _ (operands x u) (both _ _ (booleans_Decides n m) (both _ _ (operands y v) (operands z w)))))
+predicate_layers (layer.In x n ls) (layer.In y m rs) d e p q =
+    rw (p, q)
+    (via (λ k. let f = k.0 in let g = k.1.0 in let h = k.1.1 in cc) (λ f. (cc, (cc, cc)))
+    (both _ _ (operands x y) (both _ _ (booleans_Decides n m) (slice_eq-Decides literals ls.items rs.items _ refl))))
+predicate_layers (layer.IsNull x n) (layer.IsNull y m) d e p q =
+    rw (p, q) (via (λ k. let f = k.0 in let g = k.1 in cc) (λ f. (cc, cc)) (both _ _ (operands x y) (booleans_Decides n m)))
+predicate_layers (layer.Column n) (layer.Column m) d e p q = rw (p, q) (via (λ k. ap column k) (λ f. cc) (bytes_eq-Decides n m))
+predicate_layers x y d e p q = rw (p, q) (λ h. absurd cc, λ h. absurd cc)
+
+operand_trees : (d e : Operand) → Decides (the_step same_trees member-Operand d e) (operand_form d ≡ operand_form e)
+unfolding out-Operand denote.Hole.Carrier.out
+operand_trees (block.Expression x) (block.Expression y) = rw (operand_is (block.Expression x), operand_is (block.Expression y)) (via (λ k. ap expression k) (λ f. cc) (expressions x y))
+operand_trees (block.Literal a) (block.Literal b) = rw (operand_is (block.Literal a), operand_is (block.Literal b)) (via (λ k. ap literal k) (λ f. cc) (literals a b))
+operand_trees (block.Expression x) (block.Literal b) = rw (operand_is (block.Expression x), operand_is (block.Literal b)) (λ h. absurd cc, λ h. absurd cc)
+operand_trees (block.Literal a) (block.Expression y) = rw (operand_is (block.Literal a), operand_is (block.Expression y)) (λ h. absurd cc, λ h. absurd cc)
+
+abbrev ExpressionLayer : Type 0
+ExpressionLayer = Expression-F Expression Operand Predicate SetFunction
+
+expression_layers : (x y : ExpressionLayer) (d e : Expression) → out-Expression d ≡ x → out-Expression e ≡ y
+    → Decides (the_step same_trees member-Expression d e) (expression_seen x ≡ expression_seen y)
+expression_layers (layer.Name n) (layer.Name m) d e p q = rw (p, q) (via (λ k. ap name k) (λ f. cc) (bytes_eq-Decides n m))
+expression_layers (layer.Grouping v) (layer.Grouping w) d e p q = rw (p, q) (via (λ k. ap grouping k) (λ f. cc) (slice_eq-Decides bytes_eq-Decides v.items w.items _ refl))
+expression_layers (layer.Function b) (layer.Function c) d e p q = rw (p, q) (via (λ k. ap function k) (λ f. cc) (functions b.value c.value))
+expression_layers x y d e p q = rw (p, q) (λ h. absurd cc, λ h. absurd cc)
+
+filters : (a b : Aggregate) (o r : Option (Box Predicate Global)) (t : Bool) → Decides t (a ≡ b)
+    → Decides (t && option_eq (λ x y. same_trees member-Predicate x.value y.value) o r) (function_seen (record { aggregate = a; filter = o }) ≡ function_seen (record { aggregate = b; filter = r }))
+filters a b None None t d = via (λ k. ap over_all k.0) (λ f. (cc, tt)) (both t true d always)
+filters a b (Some x) (Some y) t d = via (λ k. let f = k.0 in let g = k.1 in cc) (λ f. (cc, cc)) (both t _ d (predicates x.value y.value))
+filters a b None (Some y) t d = via (λ k. absurd k.1) (λ f. absurd cc) (both t false d never)
+filters a b (Some x) None t d = via (λ k. absurd k.1) (λ f. absurd cc) (both t false d never)
+
+function_trees : (d e : SetFunction) → Decides (the_step same_trees member-SetFunction d e) (function_form d ≡ function_form e)
+function_trees f g = rw (function_is f, function_is g) (filters _ _ (out-SetFunction f).filter (out-SetFunction g).filter _ (aggregates _ _))
+
+steps : (j : the_members) (d e : the_family j) → the_step same_trees j d e ≡ same_trees j d e
+steps member-Predicate d e = same_from_decides _ _ (predicate_layers _ _ d e refl refl) (rw (sym (seen_is d _ refl), sym (seen_is e _ refl)) (predicates d e))
+steps member-Operand d e = same_from_decides _ _ (operand_trees d e) (operands d e)
+steps member-Expression d e = same_from_decides _ _ (expression_layers _ _ d e refl refl) (rw (sym (expression_is d), sym (expression_is e)) (expressions d e))
+steps member-SetFunction d e = same_from_decides _ _ (function_trees d e) (functions d e)
+
+-- ---- what it computes of any two
+
+step_by_step : (n : ℕ) (j : the_members) (d e : the_family j) → the_depth j d < n → the_depth j e < n → within the_members the_family the_depth Bool true the_step n j d e ≡ same_trees j d e
+unfolding within
+step_by_step zero j d e p q = absurd (omega arith)
+step_by_step (suc n) j d e p q = local (within the_members the_family the_depth Bool true the_step n) same_trees n (λ i u v k l. step_by_step n i u v k l) j d e (omega arith) (omega arith) ∙ steps j d e
+
+-- The derived `==` of two predicates says whether their forms are the same.
+pub equals_is_same : (d e : Predicate) → eq-value.it d e ≡ same_predicate (predicate_form d) (predicate_form e)
+equals_is_same d e =
+    let n : ℕ = suc (the_depth member-Predicate d + the_depth member-Predicate e) in
+    sym (settled the_members the_family the_depth Bool true the_step local n member-Predicate d e (omega arith) (omega arith)) ∙ step_by_step n member-Predicate d e (omega arith) (omega arith)

@@ -13,7 +13,6 @@ mod laws;
 mod planning;
 mod product;
 mod repeats;
-mod sameness;
 
 pub use columns::{column_kind, place_of};
 pub use counting::set_count;

@@ -14,7 +14,6 @@ ghost use Rattle.query_resolve.specs.Inside.Planning.{AppendsPlanned};
 ghost use Rattle.query_resolve.specs.Planning.{filter_forms, planned_form, planned_forms};
 
 use crate::function::{FilteredFunction, column_function};
-use crate::sameness::is_same_predicate;
 use query_ast::{Expression, Item, Key, Operand, Predicate, SetFunction, Tree};
 use semantics::ColumnFunction;
 use std::alloc::{AllocError, Global};
@@ -218,7 +217,18 @@ fn all_functions<'a>(
     Ok(functions)
 }
 
+/// Whether two predicates are the same, part by part: by the structure of their trees, not by what they are worth.
+///
+/// Example: `q = 1` and `(q = 1)` are the same, `q = 1` and `1 = q` are not.
+fn is_same_predicate(predicate: &Predicate, other: &Predicate) -> bool
+    ensures same { result
+        ≡ same_predicate (predicate_form predicate.now) (predicate_form other.now) }
+{
+    *predicate == *other
+}
+
 /// Whether the function, DISTINCT, the column and the filter are the same.
+#[tactic(auto, using(crate::proofs::SameTrees::same_functions))]
 fn is_same_planned(function: &Planned, other: &Planned) -> bool
     ensures { result ≡ same_planned (planned_form function.now) (planned_form other.now) }
 {

@@ -20,6 +20,7 @@ use Rattle.semantics.specs.SetFunctions.{functions_of}
 use Rattle.semantics.specs.Faults.{same_kind}
 use Rattle.query_typecheck.specs.Typing.{argument_names, may_stand, takes}
 use Rattle.semantics.specs.Types.{key_expression, literal_kind, operand_kind}
+use Rattle.semantics.specs.Limits.{most_grouping_sets, most_set_functions}
 
 -- The first fault of the elements of a list, from left to right.
 abbrev pub first_fault : {A : Type 0} → (A → Option QueryFault) → List A → Option QueryFault
@@ -172,12 +173,12 @@ unfoldable pub tests_of : List Field → TreeForm → List (Option QueryFault)
 tests_of fields t =
     clause_fault fields (grouping_places fields t) clause.Where t.where_condition
     ∷ first_fault (column_fault fields) (grouping_names t)
-    ∷ limit_fault 256 (length (expansion t.groups))
+    ∷ limit_fault most_grouping_sets (length (expansion t.groups))
     ∷ first_fault (λ i. expression_fault fields (grouping_places fields t) clause.Select i.expression) t.items
     ∷ headers_fault (map header_text t.items)
     ∷ clause_fault fields (grouping_places fields t) clause.Having t.having_condition
     ∷ first_fault (λ k. expression_fault fields (grouping_places fields t) clause.OrderBy (key_expression t.items k.expression)) t.keys
-    ∷ limit_fault 64 (length (functions_of fields t))
+    ∷ limit_fault most_set_functions (length (functions_of fields t))
     ∷ []
 
 -- The first fault of a query under a schema.

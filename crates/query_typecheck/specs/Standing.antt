@@ -16,6 +16,7 @@ use Rattle.semantics.specs.Sets.{expansion, grouping_names}
 use Rattle.semantics.specs.SetFunctions.{functions_of}
 use Rattle.query_typecheck.specs.Typing.{IsColumn, argument_names, may_stand, takes}
 use Rattle.semantics.specs.Types.{key_expression, operand_kind}
+use Rattle.semantics.specs.Limits.{most_grouping_sets, most_set_functions}
 
 -- ---- what stands in a query
 
@@ -129,7 +130,7 @@ IsViolation fields t (faults.UnknownColumn n) = (Contains (grouping_names t) n �
 IsViolation fields t (faults.NotGrouped n) = (c : Clause) × (e : ExpressionForm) × StandsIn t c e × (c ≢ clause.Where) × Contains (outer_names e) n × IsColumn fields n × (Contains (grouping_names t) n → ⊥)
 IsViolation fields t faults.TypesDisagree = ((c : Clause) × (p : PredicateForm) × IsAtomIn t c p × Disagrees fields p) ⊎ ((c : Clause) × (f : FunctionForm) × StandsIn t c (function f) × IsOfOtherKind fields (aggregate_of f))
 IsViolation fields t faults.FunctionNotAllowed = (c : Clause) × (e : ExpressionForm) × StandsIn t c e × IsMisplaced c e
-IsViolation fields t faults.OverLimit = (256 < length (expansion t.groups)) ⊎ (64 < length (functions_of fields t))
+IsViolation fields t faults.OverLimit = (most_grouping_sets < length (expansion t.groups)) ⊎ (most_set_functions < length (functions_of fields t))
 IsViolation fields t (faults.RepeatedHeader h) = StandsTwice h (map header_text t.items)
 IsViolation fields t (faults.NoToken byte) = ⊥
 IsViolation fields t (faults.Unexpected byte) = ⊥

@@ -13,6 +13,7 @@ use Rattle.semantics.specs.Names.{column_kind, place_of}
 use Rattle.semantics.specs.Sets.{expansion, grouping_names, grouping_places}
 use Rattle.semantics.specs.SetFunctions.{functions_of}
 use Rattle.semantics.specs.Types.{is_average, literal_kind, operand_kind, key_expression}
+use Rattle.semantics.specs.Limits.{most_grouping_sets, most_set_functions}
 
 -- ---- names
 
@@ -143,9 +144,9 @@ IsTypedClause fields grouped c (Some p) = IsTypedPredicate fields grouped c p
 pub record IsTyped (fields : List Field) (t : TreeForm) : Type 0 where
   pub where_condition : IsTypedClause fields (grouping_places fields t) clause.Where t.where_condition
   pub groups : All (IsColumn fields) (grouping_names t)
-  pub few_sets : length (expansion t.groups) ≤ 256
+  pub few_sets : length (expansion t.groups) ≤ most_grouping_sets
   pub items : All (λ i. IsTypedExpression fields (grouping_places fields t) clause.Select i.expression) t.items
   pub headers_differ : AllPairs (λ h g. h ≢ g) (map header_text t.items)
   pub having_condition : IsTypedClause fields (grouping_places fields t) clause.Having t.having_condition
   pub keys : All (λ k. IsTypedExpression fields (grouping_places fields t) clause.OrderBy (key_expression t.items k.expression)) t.keys
-  pub few_functions : length (functions_of fields t) ≤ 64
+  pub few_functions : length (functions_of fields t) ≤ most_set_functions

@@ -16,9 +16,10 @@ ghost use Rattle.query_typecheck.specs.Inside.Clauses.{clauses_fault, keys_fault
 ghost use Rattle.query_typecheck.specs.Standing.{IsViolation};
 ghost use Rattle.semantics.specs.declared.query_fault.QueryFault.TheVariants.{OutOfMemory, RepeatedHeader};
 ghost use Rattle.query_resolve.specs.Resolution.{resolution_of};
+ghost use Rattle.semantics.specs.Limits.{most_grouping_sets};
 
 use crate::names::check_groups;
-use crate::scope::{Clause, Scope};
+use crate::scope::{Clause, ClauseScope};
 use crate::typing::{check_expression, check_predicate};
 use query_ast::{Expression, GroupingElement, Item, Key, Predicate, Text, Tree};
 use query_printer::header;
@@ -101,7 +102,7 @@ impl Resolved {
 }
 
 /// Whether a clause of a predicate is typed, where it is written.
-fn check_clause(scope: &Scope, predicate: &Option<Predicate>) -> Result<(), QueryFault>
+fn check_clause(scope: &ClauseScope, predicate: &Option<Predicate>) -> Result<(), QueryFault>
     ensures fault { Answers result (clause_fault (fields_of scope.now.columns.now)
         scope.now.grouping.now scope.now.clause (option_map predicate_form predicate.now)) }
 {
@@ -112,7 +113,7 @@ fn check_clause(scope: &Scope, predicate: &Option<Predicate>) -> Result<(), Quer
 }
 
 /// Whether the items are typed.
-fn check_items(scope: &Scope, items: &[Item]) -> Result<(), QueryFault>
+fn check_items(scope: &ClauseScope, items: &[Item]) -> Result<(), QueryFault>
     ensures fault { Answers result (first_fault (λ i. expression_fault
         (fields_of scope.now.columns.now) scope.now.grouping.now scope.now.clause i.expression)
         (map item_form items.now)) }
@@ -144,7 +145,7 @@ pub fn key_expression<'a>(items: &'a [Item], expression: &'a Expression) -> &'a 
 }
 
 /// Whether the keys are typed.
-fn check_keys(scope: &Scope, items: &[Item], keys: &[Key]) -> Result<(), QueryFault>
+fn check_keys(scope: &ClauseScope, items: &[Item], keys: &[Key]) -> Result<(), QueryFault>
     ensures fault { Answers result (keys_fault (fields_of scope.now.columns.now)
         scope.now.grouping.now scope.now.clause (map item_form items.now) (map key_form keys.now)) }
 {
@@ -190,14 +191,14 @@ fn check_limit(most: u64, count: u64) -> Result<(), QueryFault>
 #[tactic(auto, using(crate::proofs::Limits::answers_capped))]
 fn check_set_count(groups: &[GroupingElement]) -> Result<(), QueryFault>
     ensures fault { Answers result
-        (limit_fault 256 (length (expansion (map element_form groups.now)))) }
+        (limit_fault most_grouping_sets (length (expansion (map element_form groups.now)))) }
 {
     check_limit(MAX_GROUPING_SETS, set_count(groups))
 }
 
 /// Whether WHERE and GROUP BY are typed.
 #[tactic(auto, unfolding(crate::specs::Inside::Clauses::records_fault))]
-fn check_records(scope: &Scope, tree: &Tree) -> Result<(), QueryFault>
+fn check_records(scope: &ClauseScope, tree: &Tree) -> Result<(), QueryFault>
     requires { scope.now.clause ≡ Clause.Where }
     ensures fault { Answers result (records_fault (fields_of scope.now.columns.now)
         scope.now.grouping.now (option_map predicate_form tree.now.where_condition)
@@ -210,7 +211,7 @@ fn check_records(scope: &Scope, tree: &Tree) -> Result<(), QueryFault>
 
 /// Whether SELECT is typed.
 #[tactic(auto, unfolding(crate::specs::Inside::Clauses::select_fault))]
-fn check_select(alloc: Global, scope: &Scope, items: &[Item]) -> Result<(), QueryFault>
+fn check_select(alloc: Global, scope: &ClauseScope, items: &[Item]) -> Result<(), QueryFault>
     requires { scope.now.clause ≡ Clause.Select }
     ensures fault { Answers result (select_fault (fields_of scope.now.columns.now)
         scope.now.grouping.now (map item_form items.now)) }
@@ -231,7 +232,7 @@ fn check_rows(
         (rows_fault (fields_of columns.now) grouping.now (map item_form tree.now.items.items)
         (option_map predicate_form tree.now.having_condition) (map key_form tree.now.keys.items)) }
 {
-    let mut scope = Scope {
+    let mut scope = ClauseScope {
         columns,
         grouping,
         clause: Clause::Select,
@@ -256,7 +257,7 @@ fn check_clauses(
     ensures fault { Answers result
         (clauses_fault (fields_of columns.now) grouping.now (tree_form tree.now)) }
 {
-    let scope = Scope {
+    let scope = ClauseScope {
         columns,
         grouping,
         clause: Clause::Where,

@@ -20,7 +20,7 @@ pub enum Clause {
 
 /// What the names in a clause stand for.
 #[derive(Clone, Copy)]
-pub(crate) struct Scope<'a> {
+pub(crate) struct ClauseScope<'a> {
     /// The columns of the schema.
     pub(crate) columns: &'a [Column],
     /// The places of the grouping columns.

@@ -11,7 +11,7 @@ ghost use Rattle.query_typecheck.specs.Typing.{may_stand, takes};
 ghost use Rattle.query_typecheck.specs.FirstFaults.{agreement_fault, aggregate_fault, Answers, argument_fault, between_agreement, column_fault, expression_fault, first_fault, function_fault, grouped_fault, grouping_fault, name_fault, operand_fault, parts_fault, predicate_fault, truth_fault};
 ghost use Rattle.semantics.specs.Faults.{same_kind};
 
-use crate::scope::{Clause, Scope};
+use crate::scope::{Clause, ClauseScope};
 use query_ast::{Aggregate, Expression, Literal, Operand, Predicate, SetFunction, Text};
 use query_resolve::{column_kind, place_of};
 use semantics::QueryFault;
@@ -48,7 +48,7 @@ pub(crate) fn check_column(columns: &[Column], name: &Text) -> Result<(), QueryF
 }
 
 /// Whether a grouping column has this name.
-fn check_grouped(scope: &Scope, name: &Text) -> Result<(), QueryFault>
+fn check_grouped(scope: &ClauseScope, name: &Text) -> Result<(), QueryFault>
     ensures fault { Answers result
         (grouped_fault (fields_of scope.now.columns.now) scope.now.grouping.now name.now) }
 {
@@ -62,7 +62,7 @@ fn check_grouped(scope: &Scope, name: &Text) -> Result<(), QueryFault>
 }
 
 /// Whether a name may stand in the clause.
-fn check_name(scope: &Scope, name: &Text) -> Result<(), QueryFault>
+fn check_name(scope: &ClauseScope, name: &Text) -> Result<(), QueryFault>
     ensures fault { Answers result (name_fault (fields_of scope.now.columns.now)
         scope.now.grouping.now scope.now.clause name.now) }
 {
@@ -73,7 +73,7 @@ fn check_name(scope: &Scope, name: &Text) -> Result<(), QueryFault>
 }
 
 /// Whether grouping columns have these names.
-fn check_all_grouped(scope: &Scope, names: &[Text]) -> Result<(), QueryFault>
+fn check_all_grouped(scope: &ClauseScope, names: &[Text]) -> Result<(), QueryFault>
     ensures fault { Answers result (first_fault
         (grouped_fault (fields_of scope.now.columns.now) scope.now.grouping.now) names.now) }
 {
@@ -84,7 +84,7 @@ fn check_all_grouped(scope: &Scope, names: &[Text]) -> Result<(), QueryFault>
 }
 
 /// Whether the arguments of GROUPING may stand in the clause.
-fn check_grouping(scope: &Scope, names: &[Text]) -> Result<(), QueryFault>
+fn check_grouping(scope: &ClauseScope, names: &[Text]) -> Result<(), QueryFault>
     ensures fault { Answers result (grouping_fault (fields_of scope.now.columns.now)
         scope.now.grouping.now scope.now.clause names.now) }
 {
@@ -231,7 +231,7 @@ fn check_literals(kind: Option<Kind>, literals: &[Literal]) -> Result<(), QueryF
 }
 
 /// Whether a bare name is a column of truth values that may stand in the clause.
-fn check_truth(scope: &Scope, name: &Text) -> Result<(), QueryFault>
+fn check_truth(scope: &ClauseScope, name: &Text) -> Result<(), QueryFault>
     ensures fault { Answers result (truth_fault (fields_of scope.now.columns.now)
         scope.now.grouping.now scope.now.clause name.now) }
 {
@@ -244,7 +244,10 @@ fn check_truth(scope: &Scope, name: &Text) -> Result<(), QueryFault>
 
 /// Whether an expression is typed in the clause.
 #[cycle(check_predicate)]
-pub(crate) fn check_expression(scope: &Scope, expression: &Expression) -> Result<(), QueryFault>
+pub(crate) fn check_expression(
+    scope: &ClauseScope,
+    expression: &Expression,
+) -> Result<(), QueryFault>
     ensures fault { Answers result (expression_fault (fields_of scope.now.columns.now)
         scope.now.grouping.now scope.now.clause (expression_form expression.now)) }
 {
@@ -257,7 +260,7 @@ pub(crate) fn check_expression(scope: &Scope, expression: &Expression) -> Result
 
 /// Whether a set function may stand in the clause, takes its column, and has a FILTER that is typed as WHERE is.
 #[cycle(check_predicate)]
-fn check_function(scope: &Scope, function: &SetFunction) -> Result<(), QueryFault>
+fn check_function(scope: &ClauseScope, function: &SetFunction) -> Result<(), QueryFault>
     ensures fault { Answers result (function_fault (fields_of scope.now.columns.now)
         scope.now.clause (function_form function.now)) }
 {
@@ -277,7 +280,7 @@ fn check_filter(columns: &[Column], filter: &Predicate) -> Result<(), QueryFault
     ensures fault { Answers result
         (predicate_fault (fields_of columns.now) [] Clause.Where (predicate_form filter.now)) }
 {
-    let scope = Scope {
+    let scope = ClauseScope {
         columns,
         grouping: &[],
         clause: Clause::Where,
@@ -287,7 +290,7 @@ fn check_filter(columns: &[Column], filter: &Predicate) -> Result<(), QueryFault
 
 /// Whether an operand is typed in the clause.
 #[cycle(check_predicate)]
-fn check_operand(scope: &Scope, operand: &Operand) -> Result<(), QueryFault>
+fn check_operand(scope: &ClauseScope, operand: &Operand) -> Result<(), QueryFault>
     ensures fault { Answers result (operand_fault (fields_of scope.now.columns.now)
         scope.now.grouping.now scope.now.clause (operand_form operand.now)) }
 {
@@ -299,7 +302,7 @@ fn check_operand(scope: &Scope, operand: &Operand) -> Result<(), QueryFault>
 
 /// Whether a predicate is typed in the clause: of an atom its operands from the left, then their types.
 #[cycle(check_predicate)]
-pub(crate) fn check_predicate(scope: &Scope, predicate: &Predicate) -> Result<(), QueryFault>
+pub(crate) fn check_predicate(scope: &ClauseScope, predicate: &Predicate) -> Result<(), QueryFault>
     ensures fault { Answers result (predicate_fault (fields_of scope.now.columns.now)
         scope.now.grouping.now scope.now.clause (predicate_form predicate.now)) }
 {
@@ -341,7 +344,7 @@ pub(crate) fn check_predicate(scope: &Scope, predicate: &Predicate) -> Result<()
 
 /// Whether the parts of an OR or an AND are typed in the clause.
 #[cycle(check_predicate)]
-fn check_parts(scope: &Scope, parts: &[Predicate]) -> Result<(), QueryFault>
+fn check_parts(scope: &ClauseScope, parts: &[Predicate]) -> Result<(), QueryFault>
     ensures fault { Answers result (parts_fault (fields_of scope.now.columns.now)
         scope.now.grouping.now scope.now.clause (predicate_forms (map predicate_form parts.now))) }
 {

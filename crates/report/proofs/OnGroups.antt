@@ -4,10 +4,10 @@ use Rattle.std.specs.Global.{Vec}
 use Rattle.std.proofs.lemmas.List.Elements.{All-tail}
 use Rattle.semantics.specs.Sets.{sets_of}
 use Rattle.query_plan.specs.Planned.{PlannedQuery}
-use Rattle.tables_groups.specs.declared.group.Group.{Group}
+use Rattle.group_tables.specs.declared.group.Group.{Group}
 use Rattle.semantics.specs.Found.{Found}
-use Rattle.tables_groups.specs.Found.{row_of}
-use Rattle.report_rows.specs.declared.source.Source.{Source}
+use Rattle.group_tables.specs.Found.{row_of}
+use Rattle.report_rows.specs.declared.source.ValueSource.{ValueSource}
 use Rattle.semantics.specs.Order.{rows_in_order, rows_shown}
 use Rattle.semantics.specs.Rows.{row_shown}
 use Rattle.report_rows.specs.Planned.{HasSetUnder}
@@ -15,7 +15,7 @@ use Rattle.report_rows.specs.Sources.{AreSourcesOfEach, cells_at}
 use Rattle.report_rows.proofs.Maps.{map-twice}
 use Rattle.report_rows.proofs.Sources.{sources-at, sources-count}
 
-each-shown : (plan : PlannedQuery) (sources : List (Vec Source)) (groups : List (Bor (ℕ × Group))) → AreSourcesOfEach plan (sets_of plan.fields plan.query) sources
+each-shown : (plan : PlannedQuery) (sources : List (Vec ValueSource)) (groups : List (Bor (ℕ × Group))) → AreSourcesOfEach plan (sets_of plan.fields plan.query) sources
     → All (λ (r : Bor (ℕ × Group)). HasSetUnder plan (row_of r.now)) groups
     → map (λ (r : Bor (ℕ × Group)). cells_at sources (row_of r.now)) groups ≡ map (λ (r : Bor (ℕ × Group)). row_shown plan.fields plan.query (row_of r.now)) groups
 each-shown plan sources [] each within = refl
@@ -26,7 +26,7 @@ each-shown plan sources (group ∷ groups) each within =
     λ i. first i ∷ rest i
 
 -- the sources that were looked up under a plan's view, and the groups that are shown under it, as slices
-module _ (plan view : PlannedQuery) (found : List Found) (shown groups : List (Bor (ℕ × Group))) (made sources : List (Vec Source)) (is : view ≡ plan) (same_groups : groups ≡ shown) (same_sources : sources ≡ made)
+module _ (plan view : PlannedQuery) (found : List Found) (shown groups : List (Bor (ℕ × Group))) (made sources : List (Vec ValueSource)) (is : view ≡ plan) (same_groups : groups ≡ shown) (same_sources : sources ≡ made)
     (arranges : map (λ (r : Bor (ℕ × Group)). row_of r.now) shown ≡ rows_in_order view.fields view.query found)
     (within : All (λ (r : Bor (ℕ × Group)). HasSetUnder view (row_of r.now)) shown)
     (each : AreSourcesOfEach view (sets_of view.fields view.query) made) where
@@ -44,6 +44,6 @@ module _ (plan view : PlannedQuery) (found : List Found) (shown groups : List (B
   pub groups-within : All (λ (r : Bor (ℕ × Group)). (row_of r.now).0 < length sources) groups
   groups-within =
       let count = sources-count view (sets_of view.fields view.query) made each in
-      let as_many : length (sets_of view.fields view.query) ≡ length sources = sym count ∙ ap (λ (l : List (Vec Source)). length l) (sym same_sources) in
+      let as_many : length (sets_of view.fields view.query) ≡ length sources = sym count ∙ ap (λ (l : List (Vec ValueSource)). length l) (sym same_sources) in
       subst (λ (gs : List (Bor (ℕ × Group))). All (λ (r : Bor (ℕ × Group)). (row_of r.now).0 < length sources) gs) (sym same_groups)
       (subst (λ (n : ℕ). All (λ (r : Bor (ℕ × Group)). (row_of r.now).0 < n) shown) as_many within)

@@ -3,3 +3,4 @@ pub mod Between
 pub mod Fields
 pub mod Parts
 pub mod Text
+pub mod Lengths

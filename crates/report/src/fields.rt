@@ -2,17 +2,17 @@
 ghost use Rattle.std.specs.Prelude.{◌≡◌, [], ◌∷◌, ◌++◌, IfOk, OnOk, codes, decimal, map};
 ghost use Rattle.std.specs.Fmt.{signed_decimal};
 ghost use Rattle.values.specs.Datum.{data_of, datum_of};
-ghost use Rattle.tables_groups.specs.Cells.{summary_of};
+ghost use Rattle.group_tables.specs.Cells.{summary_of};
 ghost use Rattle.csv.specs.Records.{fields_of, partial_of};
 ghost use Rattle.report.specs.Inside.Fields.{group_fields};
 ghost use Rattle.report_rows.specs.Sources.{shown_at};
 ghost use Rattle.semantics.specs.Texts.{cell_field, escaped_text, value_field};
 
 use csv::ByteRecord;
+use group_tables::{Cell, Group};
 use itoa::Buffer;
-use report_rows::Source;
+use report_rows::ValueSource;
 use std::alloc::{AllocError, Global};
-use tables_groups::{Cell, Group};
 use values::Value;
 
 /// Writes the cells of a row as fields over those of another row, whose memory is used again.
@@ -35,7 +35,7 @@ pub(crate) fn write_cells(
 pub(crate) fn write_group(
     fields: &mut ByteRecord,
     alloc: Global,
-    sources: &[Source],
+    sources: &[ValueSource],
     group: &Group,
 ) -> Result<(), AllocError>
     ensures { OnOk result (fields_of fields.new ≡ group_fields sources.now group.now) }
@@ -51,7 +51,7 @@ pub(crate) fn write_group(
 fn push_from(
     fields: &mut ByteRecord,
     alloc: Global,
-    source: &Source,
+    source: &ValueSource,
     group: &Group,
 ) -> Result<(), AllocError>
     requires { partial_of fields.old ≡ [] }
@@ -61,15 +61,15 @@ fn push_from(
     ensures whole { OnOk result (partial_of fields.new ≡ []) }
 {
     match source {
-        Source::KeyAt(place) => match group.key.get(*place) {
+        ValueSource::KeyAt(place) => match group.key.get(*place) {
             Some(value) => push_value(fields, alloc, value),
             None => push_value(fields, alloc, &Value::Null),
         },
-        Source::CellAt(place) => match group.cells.get(*place) {
+        ValueSource::CellAt(place) => match group.cells.get(*place) {
             Some(cell) => push_cell(fields, alloc, cell),
             None => push_value(fields, alloc, &Value::Null),
         },
-        Source::Always(value) => push_value(fields, alloc, value),
+        ValueSource::Always(value) => push_value(fields, alloc, value),
     }
 }
 

@@ -11,7 +11,6 @@ mod parts;
 mod refused;
 mod text;
 
-pub use among::report_among;
 pub use arranging::arrange;
 pub use refused::{push_refused_line, refused_line_room, refused_text};
 pub use report_rows::{ReportRow, arranged_law, order_law};

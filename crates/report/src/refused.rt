@@ -1,10 +1,11 @@
 //! The list of refused lines.
-ghost use Rattle.std.specs.Prelude.{◌≡◌, ◌<◌, ◌++◌, ◌^◌, IfOk, OnOk, codes, decimal, length, max};
+ghost use Rattle.std.specs.Prelude.{◌≡◌, ◌<◌, ◌++◌, IfOk, OnOk, codes, decimal, length, max};
 ghost use Rattle.values.specs.Schema.{fields_of};
 ghost use Rattle.semantics.specs.Canonical.{name_at};
 ghost use Rattle.semantics.specs.Columns.{names_of};
 ghost use Rattle.semantics.specs.Texts.{fault_text, refused_line};
 ghost use Rattle.report.specs.Report.{IsLineRoom, line_room, longest, refusals_of};
+ghost use Rattle.report.specs.Inside.Lengths.{memory_limit};
 
 use itoa::Buffer;
 use lines::LineFault;
@@ -116,7 +117,7 @@ fn column_name(schema: &Schema, place: usize) -> &str
 /// The length of the longest name of a column.
 fn longest_name(columns: &[Column]) -> usize
     ensures longest { result ≡ longest (names_of (fields_of columns.now)) }
-    ensures within { result < 2 ^ 63 }
+    ensures within { result < memory_limit }
 {
     let mut longest = 0;
     for column in columns {
@@ -128,7 +129,7 @@ fn longest_name(columns: &[Column]) -> usize
 /// A length, or that of a name where it is longer.
 fn longer(most: usize, name: &str) -> usize
     ensures longer { result ≡ max most (length name.now) }
-    ensures within { most < 2 ^ 63 → result < 2 ^ 63 }
+    ensures within { most < memory_limit → result < memory_limit }
 {
     most.max(name.len())
 }

@@ -3,7 +3,7 @@ ghost use Rattle.std.specs.Prelude.{◌≡◌, ◌<◌, [], Some, All, IfOk, OnO
 ghost use Rattle.csv.specs.Records.{fields_of};
 ghost use Rattle.csv.specs.Writing.{row_text, default_writer};
 ghost use Rattle.semantics.specs.Canonical.{header_text};
-ghost use Rattle.tables_groups.specs.Found.{row_of};
+ghost use Rattle.group_tables.specs.Found.{row_of};
 ghost use Rattle.tables.specs.Planned.{AreFittingUnder};
 ghost use Rattle.report.specs.Inside.Between.{HasWritten, IsBetweenRows, text_in};
 ghost use Rattle.report.specs.Inside.Fields.{group_fields};
@@ -13,13 +13,14 @@ ghost use Rattle.report_rows.specs.Shown.{cells_of};
 ghost use Rattle.semantics.specs.Texts.{cell_field, report_bytes};
 ghost use Rattle.report.specs.Inside.Text.{rows_bytes};
 
+use crate::among::write_rows;
 use crate::fields::{write_cells, write_group};
 use csv::{ByteRecord, Writer, WriterBuilder};
+use group_tables::{Cell, Executor, Group};
 use query_plan::{Plan, header};
-use report_rows::{PlanView, ReportRow, Source, shown_groups, sources_at, sources_by_set};
+use report_rows::{PlanView, ReportRow, ValueSource, shown_groups, sources_at, sources_by_set};
 use std::alloc::{AllocError, Global};
 use tables::Groups;
-use tables_groups::{Cell, Group};
 use values::Value;
 
 /// How many rows are written at a time.
@@ -51,7 +52,8 @@ pub fn report_text(alloc: Global, rows: &[ReportRow], plan: &Plan) -> Result<Vec
     text_of(writer)
 }
 
-/// The bytes of the report on groups: those that `report_text` gives for the rows of `arrange`, of which it makes none.
+/// The bytes of the report on groups: those that `report_text` gives for the rows of `arrange`, of which it makes none. The
+/// executor puts the rows in order and writes them.
 ///
 /// The groups fit the plan, as `arrange` asks for.
 ///
@@ -61,24 +63,28 @@ pub fn report_text(alloc: Global, rows: &[ReportRow], plan: &Plan) -> Result<Vec
 /// # Errors
 ///
 /// `AllocError` where there is no memory for the text.
-pub fn report_on(alloc: Global, groups: &Groups, plan: &Plan) -> Result<Vec<u8>, AllocError>
-    requires { AreFittingUnder plan.now groups.now.found }
+pub fn report_on<E: Executor>(
+    executor: &E,
+    alloc: Global,
+    groups: &Groups,
+    plan: &Plan,
+) -> Result<Vec<u8>, AllocError>
+    requires ready { E.ready executor.now }
+    requires fit { AreFittingUnder plan.now groups.now.found }
     ensures { IfOk result (λ text.
         text.items ≡ report_of plan.now.fields plan.now.query groups.now.found) }
 {
     let view = PlanView::new(alloc, plan)?;
-    let shown = shown_groups(alloc, groups.rows(), &view)?;
+    let shown = shown_groups(executor, alloc, groups.rows(), &view)?;
     let sources = sources_by_set(alloc, &view)?;
-    let mut writer = writer_with_headers(alloc, plan)?;
-    put_groups(&mut writer, alloc, sources.as_slice(), shown.as_slice())?;
-    text_of(writer)
+    write_rows(executor, alloc, plan, sources.as_slice(), shown.as_slice())
 }
 
 /// Writes the rows of groups, each of which stands beside the index of its grouping set.
 pub(crate) fn put_groups(
     writer: &mut Writer<Vec<u8>>,
     alloc: Global,
-    sources: &[Vec<Source>],
+    sources: &[Vec<ValueSource>],
     groups: &[&(usize, Group)],
 ) -> Result<(), AllocError>
     requires between { IsBetweenRows writer.old }
@@ -101,7 +107,7 @@ pub(crate) fn put_groups(
 fn put_few(
     writer: &mut Writer<Vec<u8>>,
     alloc: Global,
-    sources: &[Vec<Source>],
+    sources: &[Vec<ValueSource>],
     groups: &[&(usize, Group)],
 ) -> Result<(), AllocError>
     requires between { IsBetweenRows writer.old }
@@ -224,7 +230,7 @@ fn put_group(
     writer: &mut Writer<Vec<u8>>,
     fields: &mut ByteRecord,
     alloc: Global,
-    sources: &[Source],
+    sources: &[ValueSource],
     group: &Group,
 ) -> Result<(), AllocError>
     requires { IsBetweenRows writer.old }

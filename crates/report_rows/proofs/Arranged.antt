@@ -4,10 +4,10 @@ use Rattle.std.specs.List.{AllByRecursion}
 use Rattle.std.proofs.lemmas.List.Elements.{All-from_recursion}
 use Rattle.semantics.specs.Sets.{sets_of}
 use Rattle.query_plan.specs.Planned.{PlannedQuery}
-use Rattle.tables_groups.specs.declared.group.Group.{Group}
-use Rattle.tables_groups.specs.Fitting.{AreFitting}
+use Rattle.group_tables.specs.declared.group.Group.{Group}
+use Rattle.group_tables.specs.Fitting.{AreFitting}
 use Rattle.semantics.specs.Found.{Found}
-use Rattle.tables_groups.specs.Found.{row_of}
+use Rattle.group_tables.specs.Found.{row_of}
 use Rattle.semantics.specs.Rows.{rows_having_true}
 use Rattle.report_rows.specs.Planned.{HasSetUnder}
 use Rattle.semantics.specs.Order.{rows_in_order, before, in_order}

@@ -20,10 +20,10 @@ use Rattle.semantics.specs.Found.{Found}
 use Rattle.semantics.specs.Types.{key_expression}
 use Rattle.semantics.specs.Order.{key_value, null_order, under_key, under_keys}
 use Rattle.query_plan.specs.Planned.{PlannedQuery}
-use Rattle.tables_groups.proofs.Order.{value_antisymmetric}
+use Rattle.group_tables.proofs.Order.{value_antisymmetric}
 use Rattle.report_rows.specs.declared.coded_key.CodedKey.{CodedKey}
-use Rattle.report_rows.specs.declared.source.Source.{Source}
-use Rattle.report_rows.specs.declared.source.Source.TheVariants.{KeyAt, CellAt, Always}
+use Rattle.report_rows.specs.declared.source.ValueSource.{ValueSource}
+use Rattle.report_rows.specs.declared.source.ValueSource.TheVariants.{KeyAt, CellAt, Always}
 use Rattle.report_rows.specs.Inside.Sources.{AreSourcesBySet}
 use Rattle.report_rows.specs.Inside.SortEntries.{AreEnough, AreTelling, CodedForm, are_default_behind, are_default_from, are_same_sources, coded_form, coded_value, is_default_at, is_first_at, is_key_at, is_repeated, is_same_source, under_coded, value_there, with_key}
 use Rattle.report_rows.proofs.RowCodes.{by_key, under_values}
@@ -97,7 +97,7 @@ tied-values k (text r) (text s) e = value_antisymmetric (text r) (text s) (level
 
 -- ---- keys that have the values of an earlier one
 
-same-there : (x : Found) (a b : Source) → is_same_source a b ≡ true → value_there x a ≡ value_there x b
+same-there : (x : Found) (a b : ValueSource) → is_same_source a b ≡ true → value_there x a ≡ value_there x b
 same-there x (KeyAt place) (KeyAt at) e = ap (λ (p : ℕ). slice_index_or x.1.key p null) (sym (at-place place at e))
 same-there x (KeyAt place) (CellAt at) e = absurd cc
 same-there x (KeyAt place) (Always value) e = absurd cc
@@ -108,7 +108,7 @@ same-there x (Always value) (KeyAt at) e = absurd cc
 same-there x (Always value) (CellAt at) e = absurd cc
 same-there x (Always value) (Always other) e = value_antisymmetric (datum_of value) (datum_of other) ((Equal-is (value_order (datum_of value) (datum_of other))).0 e)
 
-all-there : (x : Found) (first second : List Source) → are_same_sources first second ≡ true → map (value_there x) first ≡ map (value_there x) second
+all-there : (x : Found) (first second : List ValueSource) → are_same_sources first second ≡ true → map (value_there x) first ≡ map (value_there x) second
 all-there x [] [] e = refl
 all-there x [] (b ∷ others) e = absurd cc
 all-there x (a ∷ more) [] e = absurd cc
@@ -122,7 +122,7 @@ none-both true = refl
 none-both false = refl
 
 -- lists that are not equally long are not the same
-pub not-same : (first second : List Source) → length first ≢ length second → are_same_sources first second ≡ false
+pub not-same : (first second : List ValueSource) → length first ≢ length second → are_same_sources first second ≡ false
 not-same [] [] other = absurd (other refl)
 not-same [] (b ∷ others) other = refl
 not-same (a ∷ more) [] other = refl
@@ -174,7 +174,7 @@ with-key-tells cs c x y =
     ] refl
 
 -- one key of ORDER BY more
-pub telling-more : (plan : PlannedQuery) (keys : List Key) (i : ℕ) (key : Key) (kept new : List CodedForm) (sources : List Source) → i < length keys → key ≡ get_or keys i key → new ≡ with_key kept (key_form key, sources)
+pub telling-more : (plan : PlannedQuery) (keys : List Key) (i : ℕ) (key : Key) (kept new : List CodedForm) (sources : List ValueSource) → i < length keys → key ≡ get_or keys i key → new ≡ with_key kept (key_form key, sources)
     → AreSourcesBySet plan (key_expression plan.query.items (key_form key).expression) (sets_of plan.fields plan.query) sources
     → AreTelling kept (map key_form (take i keys)) plan.fields plan.query → AreTelling new (map key_form (take (i + 1) keys)) plan.fields plan.query
 telling-more plan keys i key kept new sources within is made each told x y at_x at_y =
@@ -252,13 +252,13 @@ are-default place (c ∷ cs) e =
       are-default (suc place) cs (second-holds (is_default_at place c) (are_default_from (suc place) cs) e),
     )
 
-key-at : (x : Found) (place : ℕ) (source : Source) → is_key_at place source ≡ true → value_there x source ≡ slice_index_or x.1.key place null
+key-at : (x : Found) (place : ℕ) (source : ValueSource) → is_key_at place source ≡ true → value_there x source ≡ slice_index_or x.1.key place null
 key-at x place (KeyAt at) e = ap (λ (p : ℕ). slice_index_or x.1.key p null) (at-place place at e)
 key-at x place (CellAt at) e = absurd cc
 key-at x place (Always value) e = absurd cc
 
 -- a row of the first grouping set has its value at the first source
-first-at : (x : Found) → x.0 ≡ 0 → (place : ℕ) (sources : List Source) → is_first_at place sources ≡ true → slice_index_or (map (value_there x) sources) x.0 null ≡ slice_index_or x.1.key place null
+first-at : (x : Found) → x.0 ≡ 0 → (place : ℕ) (sources : List ValueSource) → is_first_at place sources ≡ true → slice_index_or (map (value_there x) sources) x.0 null ≡ slice_index_or x.1.key place null
 first-at x first place [] e = absurd cc
 first-at x first place (source ∷ sources) e = ap (λ (n : ℕ). slice_index_or (map (value_there x) (source ∷ sources)) n null) first ∙ key-at x place source e
 

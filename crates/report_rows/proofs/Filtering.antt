@@ -1,6 +1,5 @@
 -- The rows of which HAVING is True fit the query as all rows do.
-use Rattle.std.proofs.Common.{◌≡◌, ◌≢◌, ◌<◌, ◌+◌, ℕ, Bool, true, false, cond, List, [], ◌∷◌, length, refl, sym, ap, ◌∙◌, arith}
-use Rattle.std.specs.Prelude.{filter}
+use Rattle.std.proofs.Common.{◌≡◌, ◌≢◌, ◌<◌, List, length}
 use Rattle.std.specs.List.{AllZip}
 use Rattle.std.proofs.lemmas.List.Elements.{All-filter}
 use Rattle.std.proofs.lemmas.List.Kept.{AllPairs-filter}
@@ -9,8 +8,9 @@ use Rattle.semantics.specs.Syntax.{TreeForm}
 use Rattle.semantics.specs.Names.{kind_at}
 use Rattle.semantics.specs.SetFunctions.{functions_of}
 use Rattle.semantics.specs.Sets.{sets_of}
-use Rattle.tables_groups.specs.Bags.{SameBag, weigh}
-use Rattle.tables_groups.specs.Fitting.{AreFitting, HasType, IsHeld}
+use Rattle.group_tables.specs.Bags.{SameBag}
+use Rattle.group_tables.proofs.Bags.{bag-filter}
+use Rattle.group_tables.specs.Fitting.{AreFitting, HasType, IsHeld}
 use Rattle.semantics.specs.Found.{set_of, Found}
 use Rattle.semantics.specs.Rows.{is_having_true, rows_having_true}
 
@@ -26,17 +26,6 @@ fit-having_true fields t found fit =
       distinct = AllPairs-filter (λ (x y : Found). x.0 ≡ y.0 → x.1.key ≢ y.1.key) p found fit.distinct;
     }
 
--- what is filtered weighs what passes of each thing
-weigh-filter : {X : Type 0} (weight : X → ℕ) (p : X → Bool) (xs : List X) → weigh weight (filter p xs) ≡ weigh (λ x. cond (p x) (weight x) 0) xs
-weigh-filter {X} weight p [] = refl
-weigh-filter {X} weight p (x ∷ xs) =
-    elim (p x) as (λ (b : Bool). weigh weight (cond b (x ∷ filter p xs) (filter p xs)) ≡ cond b (weight x) 0 + weigh (λ (y : X). cond (p y) (weight y) 0) xs) [
-      | true ↦ ap (λ n. weight x + n) (weigh-filter weight p xs)
-      | false ↦ let bare : (n : ℕ) → n ≡ 0 + n = λ n. omega arith in weigh-filter weight p xs ∙ bare (weigh (λ (y : X). cond (p y) (weight y) 0) xs)
-    ]
-
 -- rows that are the same bag are so where those are left of which HAVING is True
 pub bag-having_true : (fields : List Field) (t : TreeForm) (xs ys : List Found) → SameBag xs ys → SameBag (rows_having_true fields t xs) (rows_having_true fields t ys)
-bag-having_true fields t xs ys same weight =
-    let p = is_having_true fields t in
-    weigh-filter weight p xs ∙ same (λ x. cond (p x) (weight x) 0) ∙ sym (weigh-filter weight p ys)
+bag-having_true fields t xs ys same = bag-filter (is_having_true fields t) xs ys same

@@ -15,14 +15,14 @@ use Rattle.semantics.specs.SetFunctions.{functions_of}
 use Rattle.semantics.specs.Sets.{grouping_places, sets_of}
 use Rattle.query_typecheck.specs.Typing.{IsTyped, IsTypedClause, IsTypedPredicate}
 use Rattle.query_typecheck.proofs.WholeLemmas.{none_from_typed, typed_from_none}
-use Rattle.tables_groups.specs.declared.group.Group.{Group}
-use Rattle.tables_groups.specs.Fitting.{AreFitting, HasType, IsHeld}
+use Rattle.group_tables.specs.declared.group.Group.{Group}
+use Rattle.group_tables.specs.Fitting.{AreFitting, HasType, IsHeld}
 use Rattle.semantics.specs.Found.{set_of, Found}
-use Rattle.tables_groups.specs.Found.{row_of}
+use Rattle.group_tables.specs.Found.{row_of}
 use Rattle.semantics.specs.Rows.{is_having_true, rows_having_true}
 use Rattle.semantics.specs.Order.{rows_in_order, before}
 use Rattle.report_rows.proofs.Filtering.{fit-having_true}
-use Rattle.tables_groups.proofs.Sorting.{all-in_order}
+use Rattle.group_tables.proofs.Sorting.{all-in_order}
 
 -- ---- typing
 

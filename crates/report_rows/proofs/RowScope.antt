@@ -22,15 +22,15 @@ use Rattle.semantics.specs.Found.{Found, set_of}
 use Rattle.semantics.specs.Rows.{cell_value, expression_shown, row_value}
 use Rattle.query_typecheck.specs.declared.scope.Clause.TheVariants as clause
 use Rattle.query_typecheck.specs.Typing.{IsTypedPredicate}
-use Rattle.query_eval.specs.declared.condition.Source.TheVariants as value
+use Rattle.query_eval.specs.declared.condition.OperandSource.TheVariants as value
 use Rattle.query_eval.specs.declared.condition.Condition.{Condition}
 use Rattle.query_eval.specs.Binding.{AreValuesOf, GivesExpression, GivesPredicate, IsSafeWhereTyped}
 use Rattle.query_eval.specs.Meaning.{condition_truth, is_of, is_safe}
 use Rattle.query_plan.specs.Planned.{PlannedQuery}
-use Rattle.tables_groups.specs.declared.group.Group.{Group}
-use Rattle.tables_groups.specs.Fitting.{AreFitting}
-use Rattle.tables_groups.specs.Found.{row_of}
-use Rattle.report_rows.specs.declared.source.Source.TheVariants.{KeyAt, CellAt}
+use Rattle.group_tables.specs.declared.group.Group.{Group}
+use Rattle.group_tables.specs.Fitting.{AreFitting}
+use Rattle.group_tables.specs.Found.{row_of}
+use Rattle.report_rows.specs.declared.source.ValueSource.TheVariants.{KeyAt, CellAt}
 use Rattle.report_rows.specs.Inside.Having.{AreHaving, IsHavingFor, having_truth, row_scope, row_values}
 use Rattle.report_rows.specs.Inside.Planned.{FitsUnder}
 use Rattle.report_rows.specs.Inside.Sources.{IsSourceOf}

@@ -1,5 +1,5 @@
 -- The value that a row shows for an expression that is typed in HAVING is of the type of the expression, or NULL.
-use Rattle.std.proofs.Common.{◌≡◌, ◌∙◌, ◌<◌, inl, inr, ℕ, zero, suc, pos, negsuc, ◌==◌, ◌&&◌, Bool, true, false, cond, Option, Some, None, List, [], ◌∷◌, get_or, length, nat_lt, position, refl, sym, ap, subst, arith}
+use Rattle.std.proofs.Common.{◌≡◌, ◌∙◌, ◌<◌, inl, inr, ℕ, zero, suc, pos, negsuc, ◌==◌, Bool, true, false, cond, Option, Some, None, List, [], ◌∷◌, get_or, length, nat_lt, position, refl, sym, ap, subst, arith}
 use Rattle.std.proofs.lemmas.Bool.Decides.{nat_tests}
 use Rattle.std.proofs.lemmas.List.Elements.{recursion_from_All}
 use Rattle.std.proofs.lemmas.List.Quantifiers.{position-Some}
@@ -18,7 +18,8 @@ use Rattle.semantics.specs.declared.function.ColumnFunction.TheVariants as at
 use Rattle.query_typecheck.specs.declared.scope.Clause.TheVariants as clause
 use Rattle.semantics.specs.Names.{column_kind, kind_at, place_of, PlannedFunction, column_function, planned_function}
 use Rattle.semantics.specs.SetFunctions.{functions_of, place_among}
-use Rattle.semantics.specs.Inside.Same.{same_function, same_planned}
+use Rattle.semantics.specs.Inside.Same.{same_planned}
+use Rattle.query_resolve.proofs.SameTrees.{planned_are_same}
 use Rattle.semantics.specs.Sets.{sets_of}
 use Rattle.query_typecheck.specs.Typing.{IsTypedExpression, may_stand}
 use Rattle.semantics.specs.Types.{aggregate_kind, expression_kind}
@@ -26,7 +27,7 @@ use Rattle.query_eval.specs.Meaning.{is_of}
 use Rattle.query_eval.proofs.Safety.{cases, is_of-held}
 use Rattle.semantics.specs.Aggregates.{Summary, plain, ratio}
 use Rattle.semantics.specs.Groups.{Key}
-use Rattle.tables_groups.specs.Fitting.{AreFitting, HasType, IsHeld}
+use Rattle.group_tables.specs.Fitting.{AreFitting, HasType, IsHeld}
 use Rattle.semantics.specs.Found.{set_of, Found}
 use Rattle.semantics.specs.Rows.{cell_value, row_value, grouping_number, grouping_shown, name_shown, value_in}
 use Rattle.report_rows.proofs.Places.{value_in-first, value_in-missing, value_in-other}
@@ -99,20 +100,6 @@ grouping-of fields k set names e =
 
 -- ---- set functions
 
-same_function-is : (f g : ColumnFunction) → same_function f g ≡ true → f ≡ g
-same_function-is at.CountRows at.CountRows e = refl
-same_function-is (at.Count a) (at.Count b) e = ap at.Count (same-place a b e)
-same_function-is (at.CountDistinct a) (at.CountDistinct b) e = ap at.CountDistinct (same-place a b e)
-same_function-is (at.Sum a) (at.Sum b) e = ap at.Sum (same-place a b e)
-same_function-is (at.Min a) (at.Min b) e = ap at.Min (same-place a b e)
-same_function-is (at.Max a) (at.Max b) e = ap at.Max (same-place a b e)
-same_function-is (at.Avg a) (at.Avg b) e = ap at.Avg (same-place a b e)
-same_function-is f g e = absurd cc
-
-first-true : (a b : Bool) → (a && b) ≡ true → a ≡ true
-first-true true b e = refl
-first-true false b e = e
-
 -- a cell has the type of its set function, apart from the filter
 abbrev HasTypeOf : List Field → PlannedFunction → Summary → Type 0
 HasTypeOf fields f cell = HasType fields f.function cell
@@ -182,7 +169,7 @@ placed-of fields k f fs cells h has =
       | inr found ↦ (
           let i = found.0 in
           let there = position-Some (same_planned f) fs i no_function found.1 in
-          let same : f.function ≡ (get_or fs i no_function).function = same_function-is f.function (get_or fs i no_function).function (first-true _ _ there.1) in
+          let same : f.function ≡ (get_or fs i no_function).function = ap (λ (p : PlannedFunction). p.function) (planned_are_same f (get_or fs i no_function) there.1) in
           ap (λ (o : Option ℕ). is_of k (cell_value (unwrap_or (option_and_then (slice_get cells) o) (plain null)))) found.1
           ∙ cell-of fields k (get_or fs i no_function).function (unwrap_or (slice_get cells i) (plain null)) (ap (function_kind fields) (sym same) ∙ has) (typed-at fields fs cells i h there.0))
     ]

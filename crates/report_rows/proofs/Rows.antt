@@ -17,24 +17,24 @@ use Rattle.semantics.specs.Syntax.{KeyForm, TreeForm}
 use Rattle.semantics.specs.Names.{places_of}
 use Rattle.semantics.specs.Sets.{grouping_names, grouping_places, sets_of}
 use Rattle.query_resolve.proofs.DistinctSets.{names_kept, set_of_names, sets_by_names}
-use Rattle.tables_groups.specs.declared.group.Group.{Group}
+use Rattle.group_tables.specs.declared.group.Group.{Group}
 use Rattle.semantics.specs.Groups.{key_order}
-use Rattle.tables_groups.specs.Bags.{SameBag}
-use Rattle.tables_groups.proofs.Order.{key_antisymmetric}
+use Rattle.group_tables.specs.Bags.{SameBag}
+use Rattle.group_tables.proofs.Order.{key_antisymmetric}
 use Rattle.semantics.specs.Found.{Found, set_of}
-use Rattle.tables_groups.specs.Found.{row_of}
+use Rattle.group_tables.specs.Found.{row_of}
 use Rattle.semantics.specs.Rows.{rows_having_true}
 use Rattle.semantics.specs.Order.{grouping_values, under_key, under_keys, before, in_order, rows_in_order}
-use Rattle.tables_groups.specs.Ascending.{NoneBefore, Ascends}
+use Rattle.group_tables.specs.Ascending.{NoneBefore, Ascends}
 use Rattle.report_rows.specs.Inside.SortEntries.{AreEnough, CodedForm, EntryForm, HasKeyOf, IsCodableRow, by_code, entry_at, under_coded}
-use Rattle.tables_groups.specs.Fitting.{AreFitting}
+use Rattle.group_tables.specs.Fitting.{AreFitting}
 use Rattle.report_rows.specs.Laws.{IsTheOrder, IsBlind}
 use Rattle.report_rows.proofs.Filtering.{bag-having_true, fit-having_true}
 use Rattle.report_rows.proofs.Totals.{before-total, by_code-total}
 use Rattle.report_rows.proofs.RowCodes.{by_key, codes-tell, under_values}
 use Rattle.sort_keys.specs.SortKeys.{parts_order}
-use Rattle.tables_groups.proofs.Bags.{bag-permutation}
-use Rattle.tables_groups.proofs.Sorting.{Apart, apart-in_order, ascends-in_order, ascends-sorted, one-list, weigh-in_order}
+use Rattle.group_tables.proofs.Bags.{bag-permutation}
+use Rattle.group_tables.proofs.Sorting.{Apart, apart-in_order, ascends-in_order, ascends-sorted, one-list, sum_by-in_order}
 use Rattle.report_rows.proofs.Sameness.{both-tied, found-tells, same_found}
 use Rattle.report_rows.proofs.Maps.{map-twice}
 use Rattle.report_rows.proofs.Places.{different-distinct, order-same_set}
@@ -136,11 +136,11 @@ apart-fitting fields t found fit =
 only-order : (fields : List Field) (t : TreeForm) (found others : List Found) → AreFitting fields t found → SameBag found others → Ascends (before fields t) others → others ≡ in_order (before fields t) found
 only-order fields t found others fit bag up =
     sym (one-list (before-total fields t) same_found found-tells (in_order (before fields t) found) others (apart-fitting fields t found fit) (ascends-in_order (before-total fields t) found) up
-    (λ f. weigh-in_order (before fields t) f found ∙ bag f))
+    (λ f. sum_by-in_order (before fields t) f found ∙ bag f))
 
 pub the-order : (fields : List Field) (t : TreeForm) (found : List Found) → AreFitting fields t found → IsTheOrder fields t found
 the-order fields t found fit = record {
-  same = λ f. sym (weigh-in_order (before fields t) f (rows_having_true fields t found));
+  same = λ f. sym (sum_by-in_order (before fields t) f (rows_having_true fields t found));
   ascends = ascends-in_order (before-total fields t) (rows_having_true fields t found);
   only = λ others. only-order fields t (rows_having_true fields t found) others (fit-having_true fields t found fit);
 }
@@ -148,7 +148,7 @@ the-order fields t found fit = record {
 pub is-blind : (fields : List Field) (t : TreeForm) (found : List Found) → AreFitting fields t found → IsBlind fields t found
 is-blind fields t found fit others bag =
     only-order fields t (rows_having_true fields t found) (rows_in_order fields t others) (fit-having_true fields t found fit)
-    (λ f. bag-having_true fields t found others bag f ∙ sym (weigh-in_order (before fields t) f (rows_having_true fields t others)))
+    (λ f. bag-having_true fields t found others bag f ∙ sym (sum_by-in_order (before fields t) f (rows_having_true fields t others)))
     (ascends-in_order (before-total fields t) (rows_having_true fields t others))
 
 -- ---- the code's sort

@@ -10,9 +10,9 @@ use Rattle.std.proofs.lemmas.Map.Lookups.{exact_unsigned, exact_signed}
 use Rattle.semantics.specs.Values.{value_order}
 use Rattle.semantics.specs.Aggregates.{Summary, plain, ratio}
 use Rattle.semantics.specs.Groups.{key_order}
-use Rattle.tables_groups.proofs.Order.{value_total, value_antisymmetric, key_total, key_antisymmetric}
+use Rattle.group_tables.proofs.Order.{value_total, value_antisymmetric, key_total, key_antisymmetric}
 use Rattle.semantics.specs.Found.{Found}
-use Rattle.tables_groups.proofs.Sorting.{Tells}
+use Rattle.group_tables.proofs.Sorting.{Tells}
 
 -- where two orders in a row tie, each does
 pub both-tied : (a b : Ordering) → ordering_then a b ≡ Equal → (a ≡ Equal) × (b ≡ Equal)

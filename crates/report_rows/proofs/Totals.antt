@@ -9,7 +9,7 @@ use Rattle.std.specs.Cmp.Lexicographic.{lists_total}
 use Rattle.semantics.specs.Values.{Datum, boolean, whole, text, null, is_null, value_order}
 use Rattle.semantics.specs.Columns.{Field}
 use Rattle.semantics.specs.Syntax.{KeyForm, TreeForm}
-use Rattle.tables_groups.proofs.Order.{value_total}
+use Rattle.group_tables.proofs.Order.{value_total}
 use Rattle.semantics.specs.Found.{Found}
 use Rattle.semantics.specs.Order.{before, grouping_values, key_value, null_order, under_key, under_keys}
 use Rattle.report_rows.specs.Inside.SortEntries.{EntryForm, by_code}

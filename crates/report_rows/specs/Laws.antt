@@ -2,11 +2,11 @@
 use Rattle.std.specs.Prelude.{◌≡◌, List}
 use Rattle.semantics.specs.Columns.{Field}
 use Rattle.semantics.specs.Syntax.{TreeForm}
-use Rattle.tables_groups.specs.Bags.{SameBag}
+use Rattle.group_tables.specs.Bags.{SameBag}
 use Rattle.semantics.specs.Found.{Found}
 use Rattle.semantics.specs.Rows.{rows_having_true}
 use Rattle.semantics.specs.Order.{before, rows_in_order}
-use Rattle.tables_groups.specs.Ascending.{Ascends}
+use Rattle.group_tables.specs.Ascending.{Ascends}
 
 -- the rows in their order are the one list that has each row for which HAVING is True as often and ascends
 pub record IsTheOrder (fields : List Field) (t : TreeForm) (found : List Found) : Type 0 where

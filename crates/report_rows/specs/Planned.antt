@@ -1,4 +1,4 @@
--- What `shown_groups` and `shown_among` promise of each group that they answer, under a plan.
+-- What `shown_groups` promises of each group that it answers, under a plan.
 use Rattle.std.specs.Prelude.{◌<◌, length}
 use Rattle.semantics.specs.Sets.{sets_of}
 use Rattle.query_plan.specs.Planned.{PlannedQuery}

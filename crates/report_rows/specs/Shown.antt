@@ -2,7 +2,7 @@
 use Rattle.std.specs.Prelude.{List, map}
 use Rattle.semantics.specs.Aggregates.{Summary}
 use Rattle.report_rows.specs.declared.row.ReportRow.{ReportRow}
-use Rattle.tables_groups.specs.Cells.{summary_of}
+use Rattle.group_tables.specs.Cells.{summary_of}
 
 -- ---- rows
 

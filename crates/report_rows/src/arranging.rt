@@ -1,7 +1,7 @@
 //! The rows of a report in their order.
 ghost use Rattle.std.specs.Prelude.{◌≡◌, ◌<◌, All, IfOk, length, map};
-ghost use Rattle.tables_groups.specs.Found.{row_of};
-ghost use Rattle.tables_groups.specs.Fitting.{AreFitting};
+ghost use Rattle.group_tables.specs.Found.{row_of};
+ghost use Rattle.group_tables.specs.Fitting.{AreFitting};
 ghost use Rattle.report_rows.specs.Planned.{HasSetUnder};
 ghost use Rattle.semantics.specs.Order.{rows_in_order, rows_shown};
 ghost use Rattle.report_rows.specs.Shown.{cells_of};
@@ -9,15 +9,12 @@ ghost use Rattle.report_rows.specs.Sources.{cells_at};
 
 use crate::cells::cell_from;
 use crate::having::rows_having_true;
-use crate::ordering::{in_order, in_order_among};
-use crate::parts::part_len;
+use crate::ordering::put_in_order;
 use crate::row::ReportRow;
-use crate::source::{Source, sources_at, sources_by_set};
+use crate::source::{ValueSource, sources_at, sources_by_set};
 use crate::view::PlanView;
+use group_tables::{Executor, Group, Serial};
 use std::alloc::{AllocError, Global};
-use std::marker::Sync;
-use std::thread::Threads;
-use tables_groups::Group;
 
 /// The rows of a report on groups, each of which stands beside the index of its grouping set. They are those for which
 /// the predicate of HAVING is True, and all where HAVING is not written (ISO/IEC 9075-2, `<having clause>`), by the keys of
@@ -44,7 +41,7 @@ pub fn arranged_rows(
     ensures wide { IfOk result (λ rows.
         All (λ row. length row.cells.items ≡ length plan.now.query.items) rows.items) }
 {
-    let shown = shown_groups(alloc, groups, plan)?;
+    let shown = shown_groups(&Serial, alloc, groups, plan)?;
     let sources = sources_by_set(alloc, plan)?;
     let mut rows = Vec::with_capacity(alloc, shown.len())?;
     for group in shown {
@@ -53,7 +50,8 @@ pub fn arranged_rows(
     Ok(rows)
 }
 
-/// The groups that a report shows, in the order of its rows, each beside the index of its grouping set.
+/// The groups that a report shows, in the order of its rows, each beside the index of its grouping set. The executor puts
+/// them in order.
 ///
 /// The groups fit the plan, as `arranged_rows` asks for.
 ///
@@ -62,51 +60,27 @@ pub fn arranged_rows(
 /// # Errors
 ///
 /// `AllocError` where there is no memory for the list.
-pub fn shown_groups<'a>(
+pub fn shown_groups<'a, E: Executor>(
+    executor: &E,
     alloc: Global,
     groups: &'a [(usize, Group)],
     plan: &PlanView<'_>,
 ) -> Result<Vec<&'a (usize, Group)>, AllocError>
-    requires { AreFitting plan.now.fields plan.now.query (map row_of groups.now) }
-    ensures shown { IfOk result (λ v. map (λ r. row_of r.now) v.items
-        ≡ rows_in_order plan.now.fields plan.now.query (map row_of groups.now)) }
-    ensures sets { IfOk result (λ v. All (λ r. HasSetUnder plan.now (row_of r.now)) v.items) }
-{
-    let unordered = rows_having_true(alloc, plan, groups)?;
-    in_order(alloc, plan, unordered)
-}
-
-/// As `shown_groups`; the groups are put in order by as many threads as there are hands, the calling one among them, or by
-/// fewer where they are few or a thread cannot be started. There is a hand.
-///
-/// Example: with whatever number of hands it answers what `shown_groups` answers, unless memory runs out.
-///
-/// # Errors
-///
-/// `AllocError` where there is no memory for it.
-pub fn shown_among<'a, H: Threads + Sync>(
-    rt: &H,
-    alloc: Global,
-    groups: &'a [(usize, Group)],
-    plan: &PlanView<'_>,
-    hands: usize,
-) -> Result<Vec<&'a (usize, Group)>, AllocError>
+    requires ready { E.ready executor.now }
     requires fit { AreFitting plan.now.fields plan.now.query (map row_of groups.now) }
-    requires hands { 0 < hands }
     ensures shown { IfOk result (λ v. map (λ r. row_of r.now) v.items
         ≡ rows_in_order plan.now.fields plan.now.query (map row_of groups.now)) }
     ensures sets { IfOk result (λ v. All (λ r. HasSetUnder plan.now (row_of r.now)) v.items) }
 {
     let unordered = rows_having_true(alloc, plan, groups)?;
-    let size = part_len(unordered.len(), hands);
-    in_order_among(rt, alloc, plan, unordered, size)
+    put_in_order(executor, alloc, plan, unordered)
 }
 
 /// The row of a group, which stands beside the index of its grouping set, from where the rows of each set have what they
 /// show.
 fn row_for(
     alloc: Global,
-    sources: &[Vec<Source>],
+    sources: &[Vec<ValueSource>],
     found: &(usize, Group),
 ) -> Result<ReportRow, AllocError>
     requires { (row_of found.now).0 < length sources.now }

@@ -4,36 +4,36 @@ ghost use Rattle.values.specs.Datum.{data_of, datum_of};
 ghost use Rattle.semantics.specs.Values.{null};
 ghost use Rattle.values.specs.Schema.{fields_of};
 ghost use Rattle.semantics.specs.Aggregates.{plain};
-ghost use Rattle.tables_groups.specs.Cells.{summary_of};
+ghost use Rattle.group_tables.specs.Cells.{summary_of};
 ghost use Rattle.semantics.specs.Rows.{cell_value, grouping_number, grouping_shown, is_rolled_up};
 ghost use Rattle.report_rows.specs.Inside.Having.{row_values};
 ghost use Rattle.report_rows.specs.Sources.{shown_at};
 
-use crate::source::Source;
+use crate::source::ValueSource;
+use group_tables::{Cell, Group};
 use query_plan::Text;
 use query_resolve::place_of;
 use std::alloc::AllocError;
-use tables_groups::{Cell, Group};
 use values::{Column, Value};
 
 /// The most columns that GROUPING takes.
 const MAX_ARGUMENTS: usize = 8;
 
 /// What a group has where the rows of its grouping set have what they show.
-pub(crate) fn cell_from(source: &Source, group: &Group) -> Result<Cell, AllocError>
+pub(crate) fn cell_from(source: &ValueSource, group: &Group) -> Result<Cell, AllocError>
     ensures { IfOk result (λ cell. summary_of cell ≡ shown_at
         (data_of group.now.key.items) (map summary_of group.now.cells.items) source.now) }
 {
     match source {
-        Source::KeyAt(place) => Ok(Cell::Plain(value_at(group.key.as_slice(), *place)?)),
-        Source::CellAt(place) => cell_at(group.cells.as_slice(), *place),
-        Source::Always(value) => Ok(Cell::Plain(value.clone()?)),
+        ValueSource::KeyAt(place) => Ok(Cell::Plain(value_at(group.key.as_slice(), *place)?)),
+        ValueSource::CellAt(place) => cell_at(group.cells.as_slice(), *place),
+        ValueSource::Always(value) => Ok(Cell::Plain(value.clone()?)),
     }
 }
 
 /// The value of what a group has where the rows of its grouping set have what they show. An average is no single value,
 /// and none may stand where the value is asked for.
-pub(crate) fn value_from(source: &Source, group: &Group) -> Result<Value, AllocError>
+pub(crate) fn value_from(source: &ValueSource, group: &Group) -> Result<Value, AllocError>
     ensures { IfOk result (λ value. datum_of value ≡ cell_value (shown_at
         (data_of group.now.key.items) (map summary_of group.now.cells.items) source.now)) }
 {

@@ -9,7 +9,7 @@ ghost use Rattle.query_ast.specs.Syntax.{key_form};
 ghost use Rattle.report_rows.specs.Inside.SortEntries.{AreEnough, AreTelling, are_default_behind, are_default_from, are_same_sources, coded_form, is_always, is_cell_at, is_default_at, is_first_at, is_key_at, is_repeated, is_same_source, with_key};
 
 use crate::coded_key::CodedKey;
-use crate::source::{Source, expression_sources};
+use crate::source::{ValueSource, expression_sources};
 use crate::view::PlanView;
 use query_plan::Key;
 use query_typecheck::key_expression;
@@ -60,7 +60,7 @@ fn telling_keys<'p>(alloc: Global, plan: &'p PlanView<'_>) -> Result<Vec<CodedKe
 fn keep_key<'p>(
     kept: &mut Vec<CodedKey<'p>>,
     key: &'p Key,
-    sources: Vec<Source>,
+    sources: Vec<ValueSource>,
 ) -> Result<(), AllocError>
     ensures { OnOk result (map coded_form kept.new.items
         ≡ with_key (map coded_form kept.old.items) (key_form key.now, sources.items)) }
@@ -73,7 +73,7 @@ fn keep_key<'p>(
 }
 
 /// Whether rows have their values for one of these keys at these sources.
-fn is_repeated(keys: &[CodedKey<'_>], sources: &[Source]) -> bool
+fn is_repeated(keys: &[CodedKey<'_>], sources: &[ValueSource]) -> bool
     ensures { result ≡ is_repeated (map coded_form keys.now) sources.now }
 {
     for key in keys {
@@ -85,7 +85,7 @@ fn is_repeated(keys: &[CodedKey<'_>], sources: &[Source]) -> bool
 }
 
 /// Whether these are the same sources, one by one.
-fn are_same(first: &[Source], second: &[Source]) -> bool
+fn are_same(first: &[ValueSource], second: &[ValueSource]) -> bool
     ensures { result ≡ are_same_sources first.now second.now }
 {
     if first.len() != second.len() {
@@ -100,43 +100,43 @@ fn are_same(first: &[Source], second: &[Source]) -> bool
 }
 
 /// Whether two sources are the same.
-fn is_same(first: &Source, second: &Source) -> bool
+fn is_same(first: &ValueSource, second: &ValueSource) -> bool
     ensures { result ≡ is_same_source first.now second.now }
 {
     match first {
-        Source::KeyAt(place) => is_key_at(*place, second),
-        Source::CellAt(place) => is_cell_at(*place, second),
-        Source::Always(value) => is_always(value, second),
+        ValueSource::KeyAt(place) => is_key_at(*place, second),
+        ValueSource::CellAt(place) => is_cell_at(*place, second),
+        ValueSource::Always(value) => is_always(value, second),
     }
 }
 
 /// Whether a source is the value at a place of a group's key.
-fn is_key_at(place: usize, source: &Source) -> bool
+fn is_key_at(place: usize, source: &ValueSource) -> bool
     ensures { result ≡ is_key_at place source.now }
 {
     match source {
-        Source::KeyAt(at) => *at == place,
-        Source::CellAt(_) | Source::Always(_) => false,
+        ValueSource::KeyAt(at) => *at == place,
+        ValueSource::CellAt(_) | ValueSource::Always(_) => false,
     }
 }
 
 /// Whether a source is the cell at a place.
-fn is_cell_at(place: usize, source: &Source) -> bool
+fn is_cell_at(place: usize, source: &ValueSource) -> bool
     ensures { result ≡ is_cell_at place source.now }
 {
     match source {
-        Source::CellAt(at) => *at == place,
-        Source::KeyAt(_) | Source::Always(_) => false,
+        ValueSource::CellAt(at) => *at == place,
+        ValueSource::KeyAt(_) | ValueSource::Always(_) => false,
     }
 }
 
 /// Whether a source is this value for all rows.
-fn is_always(value: &Value, source: &Source) -> bool
+fn is_always(value: &Value, source: &ValueSource) -> bool
     ensures { result ≡ is_always (datum_of value.now) source.now }
 {
     match source {
-        Source::Always(other) => value.order(other).is_eq(),
-        Source::KeyAt(_) | Source::CellAt(_) => false,
+        ValueSource::Always(other) => value.order(other).is_eq(),
+        ValueSource::KeyAt(_) | ValueSource::CellAt(_) => false,
     }
 }
 
@@ -179,7 +179,7 @@ fn is_default_at(place: usize, coded: &CodedKey<'_>) -> bool
 }
 
 /// Whether the first of these sources is the value at a place of a group's key.
-fn is_first_at(place: usize, sources: &[Source]) -> bool
+fn is_first_at(place: usize, sources: &[ValueSource]) -> bool
     ensures { result ≡ is_first_at place sources.now }
 {
     match sources.first() {

@@ -1,16 +1,16 @@
 //! The rows of which HAVING is True.
 ghost use Rattle.std.specs.Prelude.{◌≡◌, IfOk, map};
-ghost use Rattle.tables_groups.specs.Found.{row_of};
-ghost use Rattle.tables_groups.specs.Fitting.{AreFitting};
+ghost use Rattle.group_tables.specs.Found.{row_of};
+ghost use Rattle.group_tables.specs.Fitting.{AreFitting};
 ghost use Rattle.semantics.specs.Rows.{rows_having_true};
 ghost use Rattle.report_rows.specs.Inside.Having.{AreHaving};
 
 use crate::cells::put_row;
 use crate::row_scope::RowScope;
 use crate::view::PlanView;
+use group_tables::Group;
 use query_eval::{Condition, bind};
 use std::alloc::{AllocError, Global};
-use tables_groups::Group;
 use values::Truth;
 
 /// The groups of whose rows the predicate of HAVING is True. Without HAVING they are all groups.

@@ -7,18 +7,18 @@ ghost use Rattle.semantics.specs.Rows.{cell_value};
 ghost use Rattle.query_ast.specs.Syntax.{key_form};
 ghost use Rattle.sort_keys.specs.Codes.{IsCodable, key_code};
 ghost use Rattle.sort_keys.specs.SortKeys.{key_parts};
-ghost use Rattle.tables_groups.specs.Cells.{summary_of};
-ghost use Rattle.tables_groups.specs.Found.{row_of};
-ghost use Rattle.report_rows.specs.declared.source.Source.TheVariants.{CellAt};
+ghost use Rattle.group_tables.specs.Cells.{summary_of};
+ghost use Rattle.group_tables.specs.Found.{row_of};
+ghost use Rattle.report_rows.specs.declared.source.ValueSource.TheVariants.{CellAt};
 ghost use Rattle.report_rows.specs.Sources.{shown_at};
 ghost use Rattle.report_rows.specs.Inside.SortEntries.{AreCodable, IsCodableRow, coded_code, coded_form, coded_value, entry_at, keys_code, value_at_source};
 
 use crate::coded_key::CodedKey;
-use crate::source::Source;
+use crate::source::ValueSource;
+use group_tables::{Cell, Group};
 use query_plan::Key;
 use sort_keys::{SortKey, put_index, put_key_value, put_values};
 use std::alloc::{AllocError, Global};
-use tables_groups::{Cell, Group};
 use values::Value;
 
 /// The value of the cell at a place. There is `None` where the cell is an average, which is no single value.
@@ -33,14 +33,14 @@ fn plain_value(cells: &[Cell], place: usize) -> Option<&Value>
 }
 
 /// The value of what a group has where the rows of its grouping set have what they show; `None` for NULL.
-fn value_at_source<'a>(source: &'a Source, group: &'a Group) -> Option<&'a Value>
+fn value_at_source<'a>(source: &'a ValueSource, group: &'a Group) -> Option<&'a Value>
     ensures { let shown = value_at_source group.now source.now in
         MatchOption result (shown ≡ null) (λ value. shown ≡ datum_of value.now) }
 {
     match source {
-        Source::KeyAt(place) => group.key.get(*place),
-        Source::CellAt(place) => plain_value(group.cells.as_slice(), *place),
-        Source::Always(value) => Some(value),
+        ValueSource::KeyAt(place) => group.key.get(*place),
+        ValueSource::CellAt(place) => plain_value(group.cells.as_slice(), *place),
+        ValueSource::Always(value) => Some(value),
     }
 }
 
@@ -48,7 +48,7 @@ fn value_at_source<'a>(source: &'a Source, group: &'a Group) -> Option<&'a Value
 fn put_source(
     code: &mut Vec<u8>,
     key: &Key,
-    source: &Source,
+    source: &ValueSource,
     group: &Group,
 ) -> Result<(), AllocError>
     ensures code { OnOk result (code.new.items

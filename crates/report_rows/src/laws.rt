@@ -3,7 +3,7 @@ ghost use Rattle.std.specs.Prelude.{List};
 ghost use Rattle.semantics.specs.Columns.{Field};
 ghost use Rattle.semantics.specs.Syntax.{TreeForm};
 ghost use Rattle.semantics.specs.Found.{Found};
-ghost use Rattle.tables_groups.specs.Fitting.{AreFitting};
+ghost use Rattle.group_tables.specs.Fitting.{AreFitting};
 ghost use Rattle.report_rows.specs.Laws.{IsBlind, IsTheOrder};
 
 /// A law: of groups that fit a query, the rows in their order are the one list that has each of them as often and

@@ -19,9 +19,9 @@ mod sort_entry;
 mod source;
 mod view;
 
-pub use arranging::{arranged_rows, shown_among, shown_groups};
+pub use arranging::{arranged_rows, shown_groups};
 pub use laws::{arranged_law, order_law};
 pub use parts::part_len;
 pub use row::ReportRow;
-pub use source::{Source, sources_at, sources_by_set};
+pub use source::{ValueSource, sources_at, sources_by_set};
 pub use view::PlanView;

@@ -3,8 +3,8 @@ ghost use Rattle.std.specs.Prelude.{◌≡◌, ◌<◌, ◌++◌, IfOk, OnOk, ma
 ghost use Rattle.std.specs.List.{AllByRecursion, flat_map};
 ghost use Rattle.std.specs.List.Sorted.{IsPermutation, IsSortedBy};
 ghost use Rattle.std.specs.Ordering.{is_lt};
-ghost use Rattle.tables_groups.specs.Found.{row_of};
-ghost use Rattle.tables_groups.specs.Fitting.{AreFitting};
+ghost use Rattle.group_tables.specs.Found.{row_of};
+ghost use Rattle.group_tables.specs.Fitting.{AreFitting};
 ghost use Rattle.semantics.specs.Order.{before, in_order};
 ghost use Rattle.report_rows.specs.Parts.{AreMade, items_of};
 ghost use Rattle.report_rows.specs.Inside.SortEntries.{AreEntriesOf, AreEntriesOfParts, IsCodableRow, by_code, coded_form, entry_at, entry_form};
@@ -12,16 +12,72 @@ ghost use Rattle.report_rows.specs.Inside.SortEntries.{AreEntriesOf, AreEntriesO
 use crate::coded::coded_keys;
 use crate::coded_key::CodedKey;
 use crate::keys::row_key;
+use crate::parts::part_len;
 use crate::sort_entry::SortEntry;
 use crate::view::PlanView;
+use group_tables::{Executor, Group, Operation};
 use std::alloc::{AllocError, Global};
 use std::marker::Sync;
 use std::thread;
 use std::thread::Threads;
-use tables_groups::Group;
 
-/// The groups in the order of their rows: by the keys of ORDER BY, where there are some, and else by their sets and keys.
-pub(crate) fn in_order<'a>(
+/// Groups that are to be put in the order of their rows.
+struct PutInOrder<'a, 'p, 'v> {
+    alloc: Global,
+    plan: &'p PlanView<'v>,
+    rows: Vec<&'a (usize, Group)>,
+}
+
+impl<'a, 'p, 'v> Operation for PutInOrder<'a, 'p, 'v> {
+    ghost use Rattle.std.specs.Prelude.{◌≡◌, IfOk, map};
+    ghost use Rattle.group_tables.specs.Found.{row_of};
+    ghost use Rattle.group_tables.specs.Fitting.{AreFitting};
+    ghost use Rattle.semantics.specs.Order.{before, in_order};
+
+    type Output = Result<Vec<&'a (usize, Group)>, AllocError>;
+
+    ghost can_run = { λ t. AreFitting t.plan.now.fields t.plan.now.query
+        (map (λ r. row_of r.now) t.rows.items) };
+
+    ghost can_give = { λ t result. IfOk result (λ v. map (λ r. row_of r.now) v.items
+        ≡ in_order (before t.plan.now.fields t.plan.now.query)
+        (map (λ r. row_of r.now) t.rows.items)) };
+
+    fn run_alone(self) -> Result<Vec<&'a (usize, Group)>, AllocError> {
+        let PutInOrder { alloc, plan, rows } = self;
+        in_order(alloc, plan, rows)
+    }
+
+    fn run_among<H: Threads + Sync>(
+        self,
+        rt: &H,
+        hands: usize,
+    ) -> Result<Vec<&'a (usize, Group)>, AllocError> {
+        let PutInOrder { alloc, plan, rows } = self;
+        let size = part_len(rows.len(), hands);
+        in_order_among(rt, alloc, plan, rows, size)
+    }
+}
+
+/// The groups in the order of their rows, in which the executor puts them: by the keys of ORDER BY, where there are some,
+/// and else by their sets and keys.
+pub(crate) fn put_in_order<'a, E: Executor>(
+    executor: &E,
+    alloc: Global,
+    plan: &PlanView<'_>,
+    rows: Vec<&'a (usize, Group)>,
+) -> Result<Vec<&'a (usize, Group)>, AllocError>
+    requires ready { E.ready executor.now }
+    requires fit { AreFitting plan.now.fields plan.now.query (map (λ r. row_of r.now) rows.items) }
+    ensures { IfOk result (λ v. map (λ r. row_of r.now) v.items
+        ≡ in_order (before plan.now.fields plan.now.query)
+        (map (λ r. row_of r.now) rows.entry.items)) }
+{
+    executor.perform(PutInOrder { alloc, plan, rows })
+}
+
+/// The same, by the calling thread alone.
+fn in_order<'a>(
     alloc: Global,
     plan: &PlanView<'_>,
     rows: Vec<&'a (usize, Group)>,
@@ -37,9 +93,9 @@ pub(crate) fn in_order<'a>(
     groups_in(alloc, ordered)
 }
 
-/// As `in_order`. Where there are more groups than one part has, they are put in order in parts of so many, each by a thread
-/// of its own where one can be started, and the parts then together.
-pub(crate) fn in_order_among<'a, H: Threads + Sync>(
+/// The same. Where there are more groups than one part has, they are put in order in parts of so many, each by a thread of
+/// its own where one can be started, and the parts then together.
+fn in_order_among<'a, H: Threads + Sync>(
     rt: &H,
     alloc: Global,
     plan: &PlanView<'_>,

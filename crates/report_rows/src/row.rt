@@ -1,5 +1,5 @@
 //! A row of a report.
-use tables_groups::Cell;
+use group_tables::Cell;
 
 /// A row of a report: what it shows for each item of SELECT.
 ///

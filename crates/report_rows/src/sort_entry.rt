@@ -1,6 +1,6 @@
 //! Groups beside the sort keys of their rows.
+use group_tables::Group;
 use sort_keys::SortKey;
-use tables_groups::Group;
 
 /// A group beside the index of its grouping set, and the sort key of its row.
 #[derive(Drop)]

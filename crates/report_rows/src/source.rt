@@ -23,7 +23,7 @@ use values::{Column, Value};
 ///
 /// Example: under GROUP BY ROLLUP of `d`, where the set has no column, all rows show NULL for `d`, which is `Always`.
 #[derive(Drop)]
-pub enum Source {
+pub enum ValueSource {
     /// The value at this place of their key.
     KeyAt(usize),
     /// Their cell at this place.
@@ -47,20 +47,20 @@ pub(crate) fn key_place(columns: &[Column], set: &[usize], name: &Text) -> Optio
 }
 
 /// Where the rows of a grouping set have what they show for the column of a name.
-pub(crate) fn name_source(columns: &[Column], set: &[usize], name: &Text) -> Source
+pub(crate) fn name_source(columns: &[Column], set: &[usize], name: &Text) -> ValueSource
     ensures shown { (key : Key) (cells : List Summary)
         → shown_at key cells result
         ≡ plain (name_shown (fields_of columns.now) set.now key name.now) }
     ensures within { (functions : ℕ) → IsWithin (length set.now) functions result }
 {
     match key_place(columns, set, name) {
-        Some(at) => Source::KeyAt(at),
-        None => Source::Always(Value::Null),
+        Some(at) => ValueSource::KeyAt(at),
+        None => ValueSource::Always(Value::Null),
     }
 }
 
 /// Where the rows of a grouping set have what they show for an expression.
-pub(crate) fn source_of(plan: &PlanView<'_>, set: &[usize], expression: &Expression) -> Source
+pub(crate) fn source_of(plan: &PlanView<'_>, set: &[usize], expression: &Expression) -> ValueSource
     ensures shown { IsSourceOf plan.now set.now (expression_form expression.now) result }
     ensures within { IsWithin (length set.now)
         (length (functions_of plan.now.fields plan.now.query)) result }
@@ -68,10 +68,10 @@ pub(crate) fn source_of(plan: &PlanView<'_>, set: &[usize], expression: &Express
     let columns = plan.schema().columns();
     match expression {
         Expression::Name(name) => name_source(columns, set, name),
-        Expression::Grouping(names) => Source::Always(grouping_value(columns, set, names)),
+        Expression::Grouping(names) => ValueSource::Always(grouping_value(columns, set, names)),
         Expression::Function(function) => match plan.function_place(function) {
-            Some(place) => Source::CellAt(place),
-            None => Source::Always(Value::Null),
+            Some(place) => ValueSource::CellAt(place),
+            None => ValueSource::Always(Value::Null),
         },
     }
 }
@@ -82,7 +82,7 @@ fn sources_of(
     plan: &PlanView<'_>,
     set: &[usize],
     expressions: &[&Expression],
-) -> Result<Vec<Source>, AllocError>
+) -> Result<Vec<ValueSource>, AllocError>
     ensures { IfOk result (λ sources.
         AreSourcesFor plan.now (expression_forms expressions.now) set.now sources.items) }
 {
@@ -98,7 +98,7 @@ fn sources_of_each(
     alloc: Global,
     plan: &PlanView<'_>,
     expressions: &[&Expression],
-) -> Result<Vec<Vec<Source>>, AllocError>
+) -> Result<Vec<Vec<ValueSource>>, AllocError>
     ensures { IfOk result (λ all.
         ForEachSet (AreSourcesFor plan.now (expression_forms expressions.now))
         (sets_of plan.now.fields plan.now.query) all.items) }
@@ -133,7 +133,10 @@ fn item_expressions<'p>(
 /// # Errors
 ///
 /// `AllocError` where there is no memory for the lists.
-pub fn sources_by_set(alloc: Global, plan: &PlanView<'_>) -> Result<Vec<Vec<Source>>, AllocError>
+pub fn sources_by_set(
+    alloc: Global,
+    plan: &PlanView<'_>,
+) -> Result<Vec<Vec<ValueSource>>, AllocError>
     ensures { IfOk result (λ all.
         AreSourcesOfEach plan.now (sets_of plan.now.fields plan.now.query) all.items) }
 {
@@ -146,7 +149,7 @@ pub(crate) fn expression_sources(
     alloc: Global,
     plan: &PlanView<'_>,
     expression: &Expression,
-) -> Result<Vec<Source>, AllocError>
+) -> Result<Vec<ValueSource>, AllocError>
     ensures { IfOk result (λ sources.
         AreSourcesBySet plan.now (expression_form expression.now)
         (sets_of plan.now.fields plan.now.query) sources.items) }
@@ -162,7 +165,7 @@ pub(crate) fn expression_sources(
 /// Where the rows of the grouping set at an index have what they show. There is a grouping set at the index.
 ///
 /// Example: of two lists, `sources_at(sources, 1)` is the second one.
-pub fn sources_at(sources: &[Vec<Source>], index: usize) -> &[Source]
+pub fn sources_at(sources: &[Vec<ValueSource>], index: usize) -> &[ValueSource]
     requires { index < length sources.now }
     ensures { result.now ≡ sources_at sources.now index }
 {

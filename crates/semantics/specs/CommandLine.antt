@@ -6,6 +6,7 @@ use Rattle.clap.specs.declared.builder.action.ArgAction.TheVariants.{Set, SetTru
 use Rattle.clap.specs.declared.builder.value_parser.ValueParser.TheVariants.{Unsigned}
 use Rattle.semantics.specs.declared.words_fault.WordsFault.{WordsFault}
 use Rattle.semantics.specs.declared.words_fault.WordsFault.TheVariants.{Clap, Range, NotUtf8}
+use Rattle.semantics.specs.Limits.{most_workers, max_piece_len}
 
 -- The text writes this number, of 64 bits, in decimal digits, before which a plus may stand.
 abbrev pub IsNumber : Text → ℕ → Type 0
@@ -22,7 +23,7 @@ IsNumberIn (Some text) None = (n : ℕ) → IsNumber text n → ⊥
 
 -- 1 to 64 workers, and pieces of 1 to 67,108,864 bytes.
 abbrev pub AreInRange : ℕ → ℕ → Type 0
-AreInRange workers piece = (1 ≤ workers) × (workers ≤ 64) × (1 ≤ piece) × (piece ≤ 67108864)
+AreInRange workers piece = (1 ≤ workers) × (workers ≤ most_workers) × (1 ≤ piece) × (piece ≤ max_piece_len)
 
 -- A word of its own that has to be given.
 abbrev pub required_word : Text → Rule

@@ -18,6 +18,7 @@ use Rattle.semantics.specs.declared.query_fault.QueryFault.{QueryFault}
 use Rattle.semantics.specs.declared.query_fault.QueryFault.TheVariants.{UnknownColumn, TypesDisagree, NotGrouped, OverLimit, FunctionNotAllowed, RepeatedHeader}
 use Rattle.semantics.specs.declared.kind.Kind.TheVariants as kind
 use Rattle.semantics.specs.declared.aggregate.Aggregate.TheVariants as aggregate
+use Rattle.semantics.specs.Limits.{most_grouping_sets, most_set_functions}
 
 -- This fault, unless the test holds.
 abbrev pub unless : Bool → QueryFault → List QueryFault
@@ -136,9 +137,9 @@ query_faults fields q =
     let groups = grouping_names q in
     clause_faults (record_faults fields) fields q.where_condition
     ++ flat_map (column_faults fields) groups
-    ++ unless (nat_le (length (expansion q.groups)) 256) OverLimit
+    ++ unless (nat_le (length (expansion q.groups)) most_grouping_sets) OverLimit
     ++ flat_map (λ i. group_faults true fields groups i.expression) q.items
     ++ header_faults (map header_text q.items)
     ++ clause_faults (group_faults false fields groups) fields q.having_condition
     ++ flat_map (λ k. group_faults false fields groups (key_expression q.items k.expression)) q.keys
-    ++ unless (nat_le (length (functions_of fields q)) 64) OverLimit
+    ++ unless (nat_le (length (functions_of fields q)) most_set_functions) OverLimit

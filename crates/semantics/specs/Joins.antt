@@ -1,7 +1,7 @@
 -- What a run writes whose result is a part, and what a join of parts writes.
 use Rattle.std.specs.Io.KnownBytes.{Appends, Keeps}
 use Rattle.std.specs.List.{flat_map}
-use Rattle.std.specs.Prelude.{◌≡◌, ◌≢◌, ◌<◌, ◌≤◌, ◌^◌, ℕ, List, [], Option, Some, None, Result, Ok, Err, IfErr, IfSome, IsNone, IsSome, OnOk, length}
+use Rattle.std.specs.Prelude.{◌≡◌, ◌≢◌, ◌<◌, ◌≤◌, ℕ, List, [], Option, Some, None, Result, Ok, Err, IfErr, IfSome, IsNone, IsSome, OnOk, length}
 use Rattle.json.specs.Print.{quoted}
 use Rattle.semantics.specs.Canonical.{canonical_text}
 use Rattle.semantics.specs.Columns.{Field}
@@ -15,6 +15,7 @@ use Rattle.semantics.specs.declared.join_fault.JoinFault.{JoinFault}
 use Rattle.semantics.specs.declared.run_done.Done.{Done}
 use Rattle.semantics.specs.declared.run_fault.RunFault.{RunFault}
 use Rattle.semantics.specs.declared.run_fault.RunFault.TheVariants.{Reading, OutOfMemory, ThreadNotStarted, TooManyRefused, WritingReport, WritingRefused, WritingPart}
+use Rattle.semantics.specs.Limits.{input_limit}
 
 -- ---- to a part
 
@@ -49,7 +50,7 @@ ArePartsOf fields q inputs given = given ≡ Some (flat_map (part_text fields q)
 -- and the columns and the query are no longer than this, each as a string of JSON, in bytes.
 pub record CanBeJoined (fields : List Field) (q : TreeForm) (inputs : List (List ℕ)) : Type 0 where
   pub some : inputs ≢ []
-  pub few : length (lines (concatenated inputs)) < 2 ^ 63
+  pub few : length (lines (concatenated inputs)) < input_limit
   pub columns : length (quoted (columns_text fields)) ≤ 1000000
   pub query : length (quoted (canonical_text q)) ≤ 1000000
 

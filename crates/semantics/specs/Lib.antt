@@ -2,6 +2,7 @@ pub mod Truth
 pub mod Values
 pub mod Words
 pub mod Columns
+pub mod Limits
 pub mod Lines
 pub mod Records
 pub mod Syntax

@@ -8,11 +8,12 @@ use Rattle.semantics.specs.Tokens.{Spells, StopsAt}
 use Rattle.semantics.specs.declared.query_fault.QueryFault.{QueryFault}
 use Rattle.semantics.specs.declared.token.Token.{Token}
 use Rattle.semantics.specs.declared.query_fault.QueryFault.TheVariants as faults
+use Rattle.semantics.specs.Limits.{max_query_len}
 
 -- A text derives a query where it has at most 65,536 bytes and spells tokens that derive the query
 -- within the limits.
 pub record Derives (text : List ℕ) (q : TreeForm) : Type 0 where
-  pub short : length text ≤ 65536
+  pub short : length text ≤ max_query_len
   pub tokens : List Token
   pub starts : List ℕ
   pub spelled : Spells text tokens starts
@@ -40,12 +41,12 @@ pub record IsUnexpectedAt (text : List ℕ) (byte : ℕ) : Type 0 where
 -- end, continues no query, or that they are too much. No other fault is one of a text, and want of
 -- memory says nothing of it.
 abbrev pub IsRefusalOf : List ℕ → QueryFault → Type 0
-IsRefusalOf text (faults.NoToken byte) = (length text ≤ 65536) × StopsAt text byte
-IsRefusalOf text (faults.Unexpected byte) = (length text ≤ 65536) × IsUnexpectedAt text byte
+IsRefusalOf text (faults.NoToken byte) = (length text ≤ max_query_len) × StopsAt text byte
+IsRefusalOf text (faults.Unexpected byte) = (length text ≤ max_query_len) × IsUnexpectedAt text byte
 IsRefusalOf text (faults.UnknownColumn name) = ⊥
 IsRefusalOf text faults.TypesDisagree = ⊥
 IsRefusalOf text (faults.NotGrouped name) = ⊥
-IsRefusalOf text faults.OverLimit = (65536 < length text) ⊎ SpellsTooMuch text
+IsRefusalOf text faults.OverLimit = (max_query_len < length text) ⊎ SpellsTooMuch text
 IsRefusalOf text faults.FunctionNotAllowed = ⊥
 IsRefusalOf text (faults.RepeatedHeader header) = ⊥
 IsRefusalOf text faults.OutOfMemory = ⊥

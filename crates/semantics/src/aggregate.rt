@@ -5,7 +5,7 @@ use crate::text::Text;
 /// A set function apart from its FILTER, ISO/IEC 9075-2 `<set function specification>`.
 ///
 /// Example: `SUM(cents)` is `Sum` of the name `cents`.
-#[derive(Drop)]
+#[derive(PartialEq, Drop)]
 pub enum Aggregate {
     /// `COUNT(*)`: the number of records.
     CountRows,

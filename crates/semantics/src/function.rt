@@ -23,34 +23,15 @@ pub enum ColumnFunction {
 }
 
 impl ColumnFunction {
-    ghost use Rattle.std.specs.Prelude.{◌≡◌};
-    ghost use Rattle.semantics.specs.Inside.Same.{same_function};
+    ghost use Rattle.std.specs.Prelude.{◌≡◌, ◌↔◌, IsTrue};
 
     /// Whether the function, DISTINCT and the column are the same.
     ///
     /// Example: `Sum(1)` is the same as `Sum(1)`, and not as `Sum(0)` or `Min(1)`; `Count(1)` is not the same as
     /// `CountDistinct(1)`.
     pub fn is_same(self, other: ColumnFunction) -> bool
-        ensures same { result ≡ same_function self other }
+        ensures same { IsTrue result ↔ (self ≡ other) }
     {
-        match (self, other) {
-            (ColumnFunction::CountRows, ColumnFunction::CountRows) => true,
-            (ColumnFunction::Count(a), ColumnFunction::Count(b))
-            | (ColumnFunction::CountDistinct(a), ColumnFunction::CountDistinct(b))
-            | (ColumnFunction::Sum(a), ColumnFunction::Sum(b))
-            | (ColumnFunction::Min(a), ColumnFunction::Min(b))
-            | (ColumnFunction::Max(a), ColumnFunction::Max(b))
-            | (ColumnFunction::Avg(a), ColumnFunction::Avg(b)) => a == b,
-            (
-                ColumnFunction::CountRows
-                | ColumnFunction::Count(_)
-                | ColumnFunction::CountDistinct(_)
-                | ColumnFunction::Sum(_)
-                | ColumnFunction::Min(_)
-                | ColumnFunction::Max(_)
-                | ColumnFunction::Avg(_),
-                _,
-            ) => false,
-        }
+        self == other
     }
 }

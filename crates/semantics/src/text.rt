@@ -63,3 +63,18 @@ impl Text {
         text
     }
 }
+
+impl PartialEq for Text {
+    ghost use Rattle.std.specs.Str.{bytes_eq};
+    ghost use Rattle.std.proofs.Common.{rules};
+    ghost use Rattle.std.specs.Cmp.Rules.{comparing};
+
+    ghost eq = { λ text other. bytes_eq text other };
+
+    ghost laws = { Prim.search (comparing, rules) };
+
+    /// Whether the characters are the same.
+    fn eq(&self, other: &Text) -> bool {
+        self.as_str() == other.as_str()
+    }
+}

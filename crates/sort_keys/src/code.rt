@@ -5,6 +5,8 @@ ghost use Rattle.std.specs.List.{AllByRecursion};
 ghost use Rattle.semantics.specs.Values.{whole, text};
 ghost use Rattle.values.specs.Datum.{data_of, datum_of};
 ghost use Rattle.query_ast.specs.Syntax.{key_form};
+ghost use Rattle.sort_keys.specs.declared.sort_key.TheConstants.{NUMBER_BYTES};
+ghost use Rattle.sort_keys.specs.declared.code.TheConstants.{NULL_LAST};
 ghost use Rattle.sort_keys.specs.Codes.{IsCodable, complement, index_code, key_code, number_code, value_code, values_code};
 
 use query_ast::Key;
@@ -104,7 +106,7 @@ fn put_number(code: &mut Vec<u8>, number: i128) -> Result<(), AllocError>
 /// Puts a byte and the 16 bytes of a number, the highest first, behind other bytes.
 fn put_wide(code: &mut Vec<u8>, lead: u8, number: u128) -> Result<(), AllocError>
     ensures { OnOk result (code.new.items
-        ≡ code.old.items ++ lead ∷ bytes_high_first 16 number) }
+        ≡ code.old.items ++ lead ∷ bytes_high_first NUMBER_BYTES number) }
 {
     code.push(lead)?;
     code.extend_from_slice(&number.to_be_bytes())
@@ -122,9 +124,9 @@ fn put_text(code: &mut Vec<u8>, string: &str) -> Result<(), AllocError>
     put_byte(code, TEXT_END)
 }
 
-/// Makes each of these bytes greater by one. None of them is the greatest byte.
+/// Makes each of these bytes greater by one. None of them is the greatest byte, which `NULL_LAST` is.
 fn raise(bytes: &mut [u8])
-    requires { AllByRecursion (λ b. b < 255) bytes.old }
+    requires { AllByRecursion (λ b. b < NULL_LAST) bytes.old }
     ensures { bytes.new ≡ map suc bytes.old }
 {
     for byte in bytes.iter_mut() {

@@ -1,6 +1,7 @@
 //! Codes as a sort has them at hand.
 ghost use Rattle.std.specs.Prelude.{◌≡◌, drop};
 ghost use Rattle.sort_keys.specs.SortKeys.{digits_of};
+ghost use Rattle.sort_keys.specs.declared.sort_key.TheConstants.{NUMBER_BYTES};
 
 use std::alloc::{AllocError, Global};
 use std::cmp::Ordering;
@@ -43,7 +44,7 @@ fn padded_digits(code: &[u8]) -> u128
 
 /// The bytes of a code behind the first ones.
 fn behind(code: &[u8]) -> &[u8]
-    ensures { result.now ≡ drop 16 code.now }
+    ensures { result.now ≡ drop NUMBER_BYTES code.now }
 {
     code.get(NUMBER_BYTES..).unwrap_or(&[])
 }

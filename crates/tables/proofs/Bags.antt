@@ -1,9 +1,10 @@
 -- What holds of each thing of a list: of lists made from others, and of lists that are the same bag.
-use Rattle.std.proofs.Common.{◌≡◌, ◌+◌, ℕ, Bool, true, false, not, cond, List, [], ◌∷◌, ◌++◌, map, Option, Some, None, unwrap_or, refl, ap, ◌∙◌, arith}
+use Rattle.std.proofs.Common.{◌≡◌, ◌+◌, ℕ, Bool, true, false, not, cond, List, [], ◌∷◌, ◌++◌, map, Option, Some, None, unwrap_or, refl, sym, ◌∙◌, sum_by, arith}
+use Rattle.std.proofs.lemmas.List.Sums.{sum_by-cons}
 use Rattle.std.specs.Bool.{Decides}
 use Rattle.std.specs.List.{AllByRecursion, cons_option, filter, filter_map, find, flat_map}
 use Rattle.semantics.specs.Names.{distinct}
-use Rattle.tables_groups.specs.Bags.{SameBag, weigh}
+use Rattle.group_tables.specs.Bags.{SameBag}
 
 -- ---- lists made from others
 
@@ -58,20 +59,20 @@ find-such P test (x ∷ xs) d other h = elim (test x) as (λ b. P (unwrap_or (co
 abbrev fails : {X : Type 0} → (X → Bool) → X → ℕ
 fails t x = cond (t x) 0 1
 
-weigh-fails : {X : Type 0} (t : X → Bool) (xs : List X) → AllByRecursion (λ x. t x ≡ true) xs → weigh (fails t) xs ≡ 0
-weigh-fails t [] h = refl
-weigh-fails t (x ∷ xs) h = let a = ap (λ b. cond b 0 1 + weigh (fails t) xs) h.0 in let b = weigh-fails t xs h.1 in omega (arith, a, b)
+sum_by-fails : {X : Type 0} (t : X → Bool) (xs : List X) → AllByRecursion (λ x. t x ≡ true) xs → sum_by (fails t) xs ≡ 0
+sum_by-fails t [] h = refl
+sum_by-fails t (x ∷ xs) h = sum_by-cons (fails t) x xs ∙ (λ i. cond (h.0 i) 0 1 + sum_by-fails t xs h.1 i)
 
-none-fails : {X : Type 0} (t : X → Bool) (xs : List X) → weigh (fails t) xs ≡ 0 → AllByRecursion (λ x. t x ≡ true) xs
+none-fails : {X : Type 0} (t : X → Bool) (xs : List X) → sum_by (fails t) xs ≡ 0 → AllByRecursion (λ x. t x ≡ true) xs
 none-fails t [] h = tt
-none-fails t (x ∷ xs) h = elim (t x) as (λ b. t x ≡ b → cond b 0 1 + weigh (fails t) xs ≡ 0 → (t x ≡ true) × AllByRecursion (λ y. t y ≡ true) xs) [
+none-fails t (x ∷ xs) h = elim (t x) as (λ b. t x ≡ b → cond b 0 1 + sum_by (fails t) xs ≡ 0 → (t x ≡ true) × AllByRecursion (λ y. t y ≡ true) xs) [
   | true ↦ λ e z. (e, none-fails t xs (omega (arith, z)))
   | false ↦ λ e z. absurd (omega (arith, z))
-] refl h
+] refl (sym (sum_by-cons (fails t) x xs) ∙ h)
 
 pub all-same : {X : Type 0} (t : X → Bool) (xs ys : List X) → SameBag xs ys → AllByRecursion (λ x. t x ≡ true) ys
     → AllByRecursion (λ x. t x ≡ true) xs
-all-same t xs ys same h = none-fails t xs (same (fails t) ∙ weigh-fails t ys h)
+all-same t xs ys same h = none-fails t xs (same (fails t) ∙ sum_by-fails t ys h)
 
 changed : {X : Type 0} (P Q : X → Type 0) (xs : List X) → ((x : X) → P x → Q x) → AllByRecursion P xs → AllByRecursion Q xs
 changed P Q [] h a = tt
@@ -83,9 +84,9 @@ pub all-decided : {X : Type 0} (t : X → Bool) (P : X → Type 0) → ((x : X) 
 all-decided t P decides xs ys same h =
     changed (λ x. t x ≡ true) P xs (λ x. (decides x).0) (all-same t xs ys same (changed P (λ x. t x ≡ true) ys (λ x. (decides x).1) h))
 
--- ---- weights
+-- ---- sums
 
--- things that weigh the same
-pub weigh-same : {X : Type 0} (f g : X → ℕ) (xs : List X) → ((x : X) → f x ≡ g x) → weigh f xs ≡ weigh g xs
-weigh-same f g [] h = refl
-weigh-same f g (x ∷ xs) h = let a = h x in let b = weigh-same f g xs h in omega (arith, a, b)
+-- sums of the same numbers
+pub sum_by-same : {X : Type 0} (f g : X → ℕ) (xs : List X) → ((x : X) → f x ≡ g x) → sum_by f xs ≡ sum_by g xs
+sum_by-same f g [] h = refl
+sum_by-same f g (x ∷ xs) h = sum_by-cons f x xs ∙ (λ i. h x i + sum_by-same f g xs h i) ∙ sym (sum_by-cons g x xs)

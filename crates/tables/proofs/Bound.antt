@@ -11,7 +11,7 @@ use Rattle.semantics.specs.SetFunctions.{functions_of}
 use Rattle.semantics.specs.Inside.Same.{same_predicate}
 use Rattle.query_typecheck.proofs.FilterLemmas.{indexes_lead_back}
 use Rattle.semantics.specs.Conditions.{passes}
-use Rattle.tables_groups.specs.Functions.{aggregate_of, filter_at}
+use Rattle.group_tables.specs.Functions.{aggregate_of, filter_at}
 use Rattle.semantics.specs.Groups.{Row}
 use Rattle.semantics.specs.Found.{aggregate_function, aggregate_functions}
 use Rattle.tables.specs.Functions.{filter_tests}

@@ -16,7 +16,7 @@ use Rattle.semantics.specs.Names.{place_of, places_of, PlannedFunction, aggregat
 use Rattle.semantics.specs.SetFunctions.{functions_of, set_functions}
 use Rattle.semantics.specs.Sets.{grouping_names, grouping_places}
 use Rattle.semantics.specs.Syntax.{FunctionForm, PredicateForm, TreeForm}
-use Rattle.tables_groups.specs.Typed.{AreColumns, HasColumn, HaveColumns}
+use Rattle.group_tables.specs.Typed.{AreColumns, HasColumn, HaveColumns}
 use Rattle.tables.proofs.Bags.{all-distinct, all-everywhere, all-filter_map, all-map}
 
 abbrev IsPlace : List Field → ℕ → Type 0

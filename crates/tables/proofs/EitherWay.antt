@@ -1,9 +1,9 @@
 -- Two tables are put together either way round.
 use Rattle.std.proofs.Common.{◌≡◌, ◌⊎◌, Option, Some, None, IfSome, inl, inr, sym, ap, ◌∙◌, arith}
 use Rattle.std.specs.FinMap as fin
-use Rattle.tables_groups.specs.Group.{GroupState}
-use Rattle.tables_groups.specs.Table.{CanJoin, Contents, IsFitting, both_tables}
-use Rattle.tables_groups.proofs.Joint.{both_tables-flip}
+use Rattle.group_tables.specs.Group.{GroupState}
+use Rattle.group_tables.specs.Table.{CanJoin, Contents, IsFitting, both_tables}
+use Rattle.group_tables.proofs.Joint.{both_tables-flip}
 
 fits-flip : (a b : Option GroupState) → IfSome b (λ part. IsFitting part a) → IfSome a (λ part. IsFitting part b)
 fits-flip None b h = tt

@@ -14,11 +14,11 @@ use Rattle.semantics.specs.Names.{PlannedFunction}
 use Rattle.semantics.specs.SetFunctions.{functions_of}
 use Rattle.semantics.specs.Sets.{sets_of}
 use Rattle.semantics.specs.Syntax.{PredicateForm, TreeForm}
-use Rattle.tables_groups.specs.declared.group.Group.{Group}
-use Rattle.tables_groups.specs.Fitting.{AreFitting, HasType}
-use Rattle.tables_groups.specs.Found.{rows_from}
-use Rattle.tables_groups.specs.GroupSummaries.{group_summary_in}
-use Rattle.tables_groups.specs.Typed.{AreOfTypes, IsKeyOf}
+use Rattle.group_tables.specs.declared.group.Group.{Group}
+use Rattle.group_tables.specs.Fitting.{AreFitting, HasType}
+use Rattle.group_tables.specs.Found.{rows_from}
+use Rattle.group_tables.specs.GroupSummaries.{group_summary_in}
+use Rattle.group_tables.specs.Typed.{AreOfTypes, IsKeyOf}
 use Rattle.tables.proofs.Bags.{all-append}
 
 -- ---- things of which each is apart from all later ones

@@ -3,7 +3,6 @@ use Rattle.std.proofs.Common.{◌≡◌, ◌+◌, ◌<◌, ◌≤◌, ◌==◌, 
 use Rattle.std.proofs.lemmas.Bool.Decides.{Decides-by_and, nat_tests}
 use Rattle.std.proofs.lemmas.List.{map-append, length-map}
 use Rattle.std.proofs.lemmas.List.Elements.{All-append, All-cons, All-from_recursion, All-head, All-map, All-nil, All-same, All-tail, All-weaker, recursion_from_All}
-use Rattle.std.proofs.lemmas.List.Recursion.{is_sum_by}
 use Rattle.std.proofs.lemmas.List.Sums.{sum_by-cons}
 use Rattle.std.proofs.lemmas.List.Splits.{length-slice_split}
 use Rattle.std.specs.List.{IsDistinct, list_all, onto_first, slice_split}
@@ -13,7 +12,7 @@ use Rattle.semantics.specs.Records.{valid_records, refused_lines}
 use Rattle.semantics.specs.Lines.{line_feed, lines, without_empty_last}
 use Rattle.lines.specs.Pieces.{AreWholeLines}
 use Rattle.lines.proofs.Fronts.{valid-whole_lines, lines-whole_lines, refused-whole_lines}
-use Rattle.tables_groups.specs.Bags.{SameBag, weigh}
+use Rattle.group_tables.specs.Bags.{SameBag}
 use Rattle.semantics.specs.Order.{in_order}
 use Rattle.tables.specs.Inside.Notes.{AreLinesBehind, AreLinesOf}
 use Rattle.tables.specs.Notes.{IsWellNumbered, Noted, line_count, note_of, note_order, refused_lines_from}
@@ -85,9 +84,7 @@ well-same notes ordered same well =
     All-from_recursion IsWellNumbered ordered (all-decided is_well_numbered IsWellNumbered well-Decides ordered notes (λ f. sym (same f)) (recursion_from_All IsWellNumbered notes well))
 
 noted-same : (notes ordered : List Noted) → SameBag notes ordered → line_count ordered ≡ line_count notes
-noted-same notes ordered same =
-    let count : Noted → ℕ = λ note. note.lines in
-    sym (is_sum_by (weigh count) count refl (λ _ _. refl) ordered) ∙ sym (same count) ∙ is_sum_by (weigh count) count refl (λ _ _. refl) notes
+noted-same notes ordered same = sym (same (λ note. note.lines))
 
 pub lines-within : (notes : List Noted) (found : List (ℕ × LineFault)) → All IsWellNumbered notes → AreLinesOf notes found → All (λ line. line.0 ≤ line_count notes) found
 lines-within notes found well are =

@@ -5,7 +5,7 @@ use Rattle.std.proofs.lemmas.List.Sorted.{All-permutation, IsPermutation-map, su
 use Rattle.std.proofs.lemmas.List.Sums.{sum_by-cons}
 use Rattle.std.specs.List.Sorted.{IsNonDecreasingBy, IsPermutation}
 use Rattle.semantics.specs.declared.line_fault.LineFault.{LineFault}
-use Rattle.tables_groups.proofs.Bags.{bag-permutation}
+use Rattle.group_tables.proofs.Bags.{bag-permutation}
 use Rattle.tables.specs.declared.piece_refusals.PieceRefusals.{PieceRefusals}
 use Rattle.tables.specs.Inside.Notes.{AreLinesOf}
 use Rattle.tables.specs.Notes.{IsWellNumbered, Noted, line_count, note_in, refused_lines_from}

@@ -5,8 +5,8 @@ use Rattle.std.proofs.lemmas.List.Sums.{sum_by-append, sum_by-cons}
 use Rattle.std.proofs.lemmas.List.Elements.{All-cons}
 use Rattle.std.specs.List.{All}
 use Rattle.semantics.specs.Columns.{Field}
-use Rattle.tables_groups.specs.Bags.{SameBag}
-use Rattle.tables_groups.proofs.Bags.{bag-append}
+use Rattle.group_tables.specs.Bags.{SameBag}
+use Rattle.group_tables.proofs.Bags.{bag-append}
 use Rattle.tables.specs.Notes.{IsWellNumbered, Noted, line_count, note_in, note_of}
 use Rattle.tables.specs.declared.piece_refusals.PieceRefusals.{PieceRefusals}
 use Rattle.tables.specs.Pieces.{IndexedPiece}

@@ -6,7 +6,7 @@ use Rattle.semantics.specs.declared.kind.Kind.TheVariants as kind
 use Rattle.semantics.specs.Values.{Datum, boolean, whole, text, null}
 use Rattle.semantics.specs.Records.{Fits, Holds}
 use Rattle.semantics.specs.Columns.{Field}
-use Rattle.tables_groups.specs.Rows.{IsNarrow, IsNarrowRow}
+use Rattle.group_tables.specs.Rows.{IsNarrow, IsNarrowRow}
 
 one : (k : Kind) (d : Datum) → Holds k d → IsNarrow d
 one k null h = tt

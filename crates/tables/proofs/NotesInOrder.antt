@@ -5,9 +5,9 @@ use Rattle.std.specs.Cmp.Lexicographic.{slice_cmp}
 use Rattle.std.specs.Ordering.{is_gt, nat_cmp, ordering_then}
 use Rattle.semantics.specs.Order.{in_order}
 use Rattle.semantics.specs.declared.line_fault.LineFault.{LineFault}
-use Rattle.tables_groups.specs.Ascending.{Ascends, NoneBefore}
-use Rattle.tables_groups.specs.Bags.{SameBag}
-use Rattle.tables_groups.proofs.Sorting.{ascends-in_order, one-ascending, weigh-in_order}
+use Rattle.group_tables.specs.Ascending.{Ascends, NoneBefore}
+use Rattle.group_tables.specs.Bags.{SameBag}
+use Rattle.group_tables.proofs.Sorting.{ascends-in_order, one-ascending, sum_by-in_order}
 use Rattle.tables.specs.Laws.{note-antisymmetric, note-total, notes-same}
 use Rattle.tables.specs.Inside.Notes.{AreLinesOf}
 use Rattle.tables.specs.Notes.{Noted, line_order, note_order, refused_lines_from}
@@ -31,11 +31,11 @@ rising-same notes others a b same = one-ascending note-total note-antisymmetric 
 pub rising-in_order : (notes : List Noted) → Rises index_of notes → in_order note_order notes ≡ notes
 rising-in_order notes up =
     one-ascending note-total note-antisymmetric (in_order note_order notes) notes (ascends-in_order note-total notes) (ascends-rising notes up)
-    (λ w. weigh-in_order note_order w notes)
+    (λ w. sum_by-in_order note_order w notes)
 
 -- where no index stands twice, the lines of notes are numbered in the order of these
 pub lines-own : (notes : List Noted) (found : List (ℕ × LineFault)) → IsDistinct nat_eq (map index_of (in_order note_order notes)) → AreLinesOf notes found
     → found ≡ refused_lines_from 0 (in_order note_order notes)
 lines-own notes found own are =
-    let rise = rises-ordered index_of (in_order note_order notes) are.ordered own (λ w. weigh-in_order note_order w notes ∙ are.same w) are.ascending in
+    let rise = rises-ordered index_of (in_order note_order notes) are.ordered own (λ w. sum_by-in_order note_order w notes ∙ are.same w) are.ascending in
     are.numbered ∙ ap (refused_lines_from 0) (sym (notes-same notes are.ordered are.same ∙ rising-in_order are.ordered rise))

@@ -1,5 +1,6 @@
 -- The numbers of refused lines.
-use Rattle.std.proofs.Common.{◌≡◌, ◌+◌, ◌<◌, nat_eq, nat_lt, ℕ, true, false, cond, List, [], ◌∷◌, ◌++◌, length, map, filter, filter_map, Result, Ok, Err, refl, sym, ap, subst, ◌∙◌, arith, append-nil, append_assoc, length-append}
+use Rattle.std.proofs.Common.{◌≡◌, ◌+◌, ◌<◌, nat_eq, nat_lt, ℕ, true, false, cond, List, [], ◌∷◌, ◌++◌, length, map, filter, filter_map, Result, Ok, Err, refl, sym, ap, subst, ◌∙◌, sum_by, arith, append-nil, append_assoc, length-append}
+use Rattle.std.proofs.lemmas.List.Sums.{sum_by-cons}
 use Rattle.std.proofs.lemmas.Bool.Decides.{nat_tests}
 use Rattle.std.proofs.lemmas.Grind.{flat_map-append}
 use Rattle.std.proofs.lemmas.List.Elements.{filter-append}
@@ -11,13 +12,13 @@ use Rattle.semantics.specs.Columns.{Field}
 use Rattle.semantics.specs.declared.line_fault.LineFault.{LineFault}
 use Rattle.semantics.specs.Records.{refused_lines, decode_line}
 use Rattle.semantics.specs.Lines.{lines}
-use Rattle.tables_groups.specs.Bags.{SameBag, weigh}
-use Rattle.tables_groups.proofs.Bags.{bag-map, weigh-flat_map}
+use Rattle.group_tables.specs.Bags.{SameBag}
+use Rattle.group_tables.proofs.Bags.{bag-map, sum_by-flat_map}
 use Rattle.semantics.specs.Order.{in_order}
 use Rattle.tables.specs.Inside.Notes.{AreLinesOf}
 use Rattle.tables.specs.Notes.{Noted, note_of, note_order, refused_lines_from}
 use Rattle.tables.specs.Pieces.{AreInOrder, AreNumbered, HaveOwnIndexes, IndexedPiece, all_lines, pieces_before, refused_lines_numbered}
-use Rattle.tables.proofs.Bags.{weigh-same}
+use Rattle.tables.proofs.Bags.{sum_by-same}
 use Rattle.tables.proofs.Cutting.{numbered-lines, refused_from}
 use Rattle.tables.proofs.NotesInOrder.{rising-in_order, rising-same}
 use Rattle.tables.proofs.Orders.{Rises, distinct-from_rises, rises-from_sorted, rises-ordered, strict-from_rises}
@@ -134,16 +135,16 @@ abbrev sorted : List IndexedPiece → List IndexedPiece
 sorted [] = []
 sorted (p ∷ ps) = insert p (sorted ps)
 
-weigh-insert : (f : IndexedPiece → ℕ) (p : IndexedPiece) (qs : List IndexedPiece) → weigh f (insert p qs) ≡ f p + weigh f qs
-weigh-insert f p [] = refl
-weigh-insert f p (q ∷ qs) = elim (nat_lt p.index q.index) as (λ b. weigh f (cond b (p ∷ q ∷ qs) (q ∷ insert p qs)) ≡ f p + (f q + weigh f qs)) [
-  | true ↦ refl
-  | false ↦ let h = weigh-insert f p qs in omega (arith, h)
+sum_by-inserted : (f : IndexedPiece → ℕ) (p : IndexedPiece) (qs : List IndexedPiece) → sum_by f (insert p qs) ≡ f p + sum_by f qs
+sum_by-inserted f p [] = sum_by-cons f p []
+sum_by-inserted f p (q ∷ qs) = elim (nat_lt p.index q.index) as (λ b. sum_by f (cond b (p ∷ q ∷ qs) (q ∷ insert p qs)) ≡ f p + sum_by f (q ∷ qs)) [
+  | true ↦ sum_by-cons f p (q ∷ qs)
+  | false ↦ omega (arith, sum_by-cons f q (insert p qs), sum_by-inserted f p qs, sum_by-cons f q qs)
 ]
 
 bag-sorted : (ps : List IndexedPiece) → SameBag (sorted ps) ps
 bag-sorted [] f = refl
-bag-sorted (p ∷ ps) f = weigh-insert f p (sorted ps) ∙ ap (λ n. f p + n) (bag-sorted ps f)
+bag-sorted (p ∷ ps) f = sum_by-inserted f p (sorted ps) ∙ ap (λ n. f p + n) (bag-sorted ps f) ∙ sym (sum_by-cons f p ps)
 
 all-insert : (P : IndexedPiece → Type 0) (p : IndexedPiece) (qs : List IndexedPiece) → P p → AllByRecursion P qs → AllByRecursion P (insert p qs)
 all-insert P p [] h all = (h, tt)
@@ -191,13 +192,13 @@ lines_below index p = cond (nat_lt p.index index) (length (lines p.bytes)) 0
 zero-more : (n : ℕ) → n ≡ 0 + n
 zero-more n = omega arith
 
-length-before : (index : ℕ) (ps : List IndexedPiece) → length (all_lines (pieces_before index ps)) ≡ weigh (lines_below index) ps
+length-before : (index : ℕ) (ps : List IndexedPiece) → length (all_lines (pieces_before index ps)) ≡ sum_by (lines_below index) ps
 length-before index [] = refl
 length-before index (p ∷ ps) =
-    elim (nat_lt p.index index) as (λ b. length (all_lines (cond b (p ∷ pieces_before index ps) (pieces_before index ps))) ≡ cond b (length (lines p.bytes)) 0 + weigh (lines_below index) ps) [
+    (elim (nat_lt p.index index) as (λ b. length (all_lines (cond b (p ∷ pieces_before index ps) (pieces_before index ps))) ≡ cond b (length (lines p.bytes)) 0 + sum_by (lines_below index) ps) [
       | true ↦ length-append (lines p.bytes) (all_lines (pieces_before index ps)) ∙ ap (λ n. length (lines p.bytes) + n) (length-before index ps)
-      | false ↦ length-before index ps ∙ zero-more (weigh (lines_below index) ps)
-    ]
+      | false ↦ length-before index ps ∙ zero-more (sum_by (lines_below index) ps)
+    ]) ∙ sym (sum_by-cons (lines_below index) p ps)
 
 abbrev shifted_of : List Field → List IndexedPiece → IndexedPiece → List (ℕ × LineFault)
 shifted_of fields pieces piece = map (shift (length (all_lines (pieces_before piece.index pieces)))) (refused_lines fields piece.bytes)
@@ -206,10 +207,10 @@ numbered-same : (fields : List Field) (ps qs : List IndexedPiece) → SameBag ps
 numbered-same fields ps qs same = λ f.
     let before : (index : ℕ) → length (all_lines (pieces_before index ps)) ≡ length (all_lines (pieces_before index qs)) =
     λ index. length-before index ps ∙ same (lines_below index) ∙ sym (length-before index qs) in
-    weigh-flat_map f (shifted_of fields ps) ps
-    ∙ weigh-same (λ p. weigh f (shifted_of fields ps p)) (λ p. weigh f (shifted_of fields qs p)) ps (λ p. ap (λ n. weigh f (map (shift n) (refused_lines fields p.bytes))) (before p.index))
-    ∙ same (λ p. weigh f (shifted_of fields qs p))
-    ∙ sym (weigh-flat_map f (shifted_of fields qs) qs)
+    sum_by-flat_map f (shifted_of fields ps) ps
+    ∙ sum_by-same (λ p. sum_by f (shifted_of fields ps p)) (λ p. sum_by f (shifted_of fields qs p)) ps (λ p. ap (λ n. sum_by f (map (shift n) (refused_lines fields p.bytes))) (before p.index))
+    ∙ same (λ p. sum_by f (shifted_of fields qs p))
+    ∙ sym (sum_by-flat_map f (shifted_of fields qs) qs)
 
 -- ---- their numbers ascend
 
@@ -232,7 +233,7 @@ lines-numbered fields pieces notes lines own same are =
     let is = lines-rising fields (sorted pieces) notes lines rise (λ f. bag-map (note_of fields) (sorted pieces) pieces bag f ∙ same f) are in
     let all = numbered-lines fields 0 (sorted pieces) in
     record {
-      same = λ f. ap (weigh f) (is ∙ numbered-rising fields (sorted pieces) rise) ∙ numbered-same fields (sorted pieces) pieces bag f;
+      same = λ f. ap (sum_by f) (is ∙ numbered-rising fields (sorted pieces) rise) ∙ numbered-same fields (sorted pieces) pieces bag f;
       ascending = subst (λ (ls : List (ℕ × LineFault)). IsStrictlyIncreasing (map (λ line. line.0) ls)) (sym (is ∙ all))
           (strict-from_rises (λ (line : ℕ × LineFault). line.0) (refused_from fields (0 + 1) (all_lines (sorted pieces))) (faults-rise (0 + 1) (map (decode_line fields) (all_lines (sorted pieces)))));
     }

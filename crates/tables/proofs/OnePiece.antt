@@ -11,9 +11,9 @@ use Rattle.semantics.specs.Records.{refused_lines}
 use Rattle.semantics.specs.Sets.{grouping_places}
 use Rattle.semantics.specs.declared.line_fault.LineFault.{LineFault}
 use Rattle.query_plan.specs.Planned.{PlannedQuery}
-use Rattle.tables_groups.specs.Table.{IsTableOf, both_tables}
-use Rattle.tables_groups.proofs.Joint.{both_tables-has}
-use Rattle.tables_groups.proofs.Meaning.{table-joined}
+use Rattle.group_tables.specs.Table.{IsTableOf, both_tables}
+use Rattle.group_tables.proofs.Joint.{both_tables-has}
+use Rattle.group_tables.proofs.Meaning.{table-joined}
 use Rattle.tables.specs.Laws.{kept-append}
 use Rattle.tables.specs.Notes.{note_of, note_order, refused_lines_from}
 use Rattle.tables.specs.Partials.{HasOwnIndexes, StandsFor, StandsForInput, as_one, concatenation, note_of_one, notes_of_one, numbered_lines, of_piece, one_piece, whole_piece}

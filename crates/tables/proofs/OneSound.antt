@@ -12,9 +12,9 @@ use Rattle.semantics.specs.Columns.{Field}
 use Rattle.semantics.specs.Names.{kind_at}
 use Rattle.semantics.specs.declared.function.ColumnFunction.{ColumnFunction}
 use Rattle.semantics.specs.declared.function.ColumnFunction.TheVariants as function
-use Rattle.tables_groups.specs.Fitting.{IsHeld}
-use Rattle.tables_groups.specs.Accumulator.{AccumulatorState, nothing, counted, summed, averaged, collected, lowest, highest}
-use Rattle.tables_groups.specs.Typed.{AreStatesOf, IsKeyOf, IsStateBy, IsStateCounted, IsStateOver}
+use Rattle.group_tables.specs.Fitting.{IsHeld}
+use Rattle.group_tables.specs.Accumulator.{AccumulatorState, nothing, counted, summed, averaged, collected, lowest, highest}
+use Rattle.group_tables.specs.Typed.{AreStatesOf, IsKeyOf, IsStateBy, IsStateCounted, IsStateOver}
 use Rattle.tables.specs.Sound.{IsSoundUnder}
 use Rattle.tables.specs.States.{PartialState}
 

@@ -7,8 +7,8 @@ use Rattle.std.specs.List.Sorted.{IsNonDecreasingBy, IsStrictlyIncreasing, IsStr
 use Rattle.std.proofs.lemmas.List.{get_or-map, get_or_default, length-map}
 use Rattle.std.proofs.lemmas.Bool.Decides.{Decides-eqb, nat_tests}
 use Rattle.std.proofs.lemmas.Map.Keys.{IsStrictlyIncreasing-from_distinct, sorted_from_strictly_increasing, below_from_sorted}
-use Rattle.tables_groups.specs.Bags.{SameBag}
-use Rattle.tables_groups.proofs.Bags.{bag-map}
+use Rattle.group_tables.specs.Bags.{SameBag}
+use Rattle.group_tables.proofs.Bags.{bag-map}
 use Rattle.tables.proofs.Once.{distinct-same}
 
 pub non_decreasing-map : {X Y : Type 0} (g : X → Y) (n : Y → ℕ) (xs : List X) → IsNonDecreasingBy (λ x. n (g x)) xs → IsNonDecreasingBy n (map g xs)

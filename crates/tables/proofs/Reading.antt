@@ -15,9 +15,9 @@ use Rattle.semantics.specs.Found.{aggregate_functions}
 use Rattle.semantics.specs.Sets.{grouping_places}
 use Rattle.semantics.specs.Conditions.{is_kept, kept_records}
 use Rattle.semantics.specs.Groups.{Row}
-use Rattle.tables_groups.specs.Table.{Contents, IsTableOf, both_tables, table_of}
-use Rattle.tables_groups.proofs.GroupsLaw.{table-is}
-use Rattle.tables_groups.proofs.Joint.{table_of-append}
+use Rattle.group_tables.specs.Table.{Contents, IsTableOf, both_tables, table_of}
+use Rattle.group_tables.proofs.GroupsLaw.{table-is}
+use Rattle.group_tables.proofs.Joint.{table_of-append}
 use Rattle.tables.specs.Laws.{kept-append}
 use Rattle.tables.specs.Partials.{of_pieces, whole_piece}
 use Rattle.tables.specs.declared.folding.Folding.{Folding}

@@ -8,21 +8,20 @@ use Rattle.std.specs.List.{AllByRecursion, Any, list_any}
 use Rattle.std.specs.List.Sorted.{IsPermutation}
 use Rattle.std.specs.Option.{option_eq}
 use Rattle.std.specs.Result.{result_ok}
-use Rattle.tables_groups.specs.Functions.{aggregates_of}
+use Rattle.group_tables.specs.Functions.{aggregates_of}
 use Rattle.semantics.specs.Names.{places_of}
 use Rattle.query_resolve.specs.Resolution.{contents}
 use Rattle.semantics.specs.Sets.{grouping_places, sets_of}
 use Rattle.query_resolve.proofs.DistinctSets.{names_kept, set_of_names, sets_by_names}
-use Rattle.tables_groups.specs.declared.group.Group.{Group}
-use Rattle.tables_groups.specs.Rolled.{AreAmong}
-use Rattle.tables_groups.specs.Table.{AreGroupsOfTable, Contents, IsRollOf, KeepsCount}
-use Rattle.tables_groups.specs.Typed.{HaveTypesOfTable, KeepsTypes}
+use Rattle.group_tables.specs.declared.group.Group.{Group}
+use Rattle.group_tables.specs.Rolled.{AreAmong}
+use Rattle.group_tables.specs.Table.{AreGroupsOfTable, Contents, IsRollOf, KeepsCount}
+use Rattle.group_tables.specs.Typed.{HaveTypesOfTable, KeepsTypes}
 use Rattle.query_resolve.specs.declared.function.FilteredFunction.{FilteredFunction}
 use Rattle.tables.specs.declared.rolling.Roll.{Roll}
 use Rattle.tables.specs.declared.rolling.SetTable.{SetTable}
-use Rattle.tables.specs.Inside.Properties.{AreGroupsWith}
-use Rattle.tables.specs.Properties.{HasProperty, Property, of_at_most, of_records, of_types}
-use Rattle.tables.specs.SetTables.{AreRolled}
+use Rattle.tables.specs.Inside.Properties.{AreGroupsWith, HasProperty, Property, of_at_most, of_records, of_types}
+use Rattle.tables.specs.Inside.SetTables.{AreRolled}
 use Rattle.tables.specs.Inside.SetTables.{HasFiner, ListedSet, NoneHasIndex, StandsAtIndex, listed_roll, listed_table, sets_of_rolls, sets_of_tables}
 use Rattle.tables.proofs.Bags.{all-everywhere, all-filter, all-map}
 use Rattle.query_plan.specs.Planned.{PlannedQuery}

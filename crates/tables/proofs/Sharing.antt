@@ -8,8 +8,8 @@ use Rattle.std.proofs.Crossing as std
 use Rattle.query_plan.proofs.Sharing.{plan_sync}
 use Rattle.tables.specs.contracts.job.Job as Job
 use Rattle.tables.specs.contracts.job.JobBy as JobBy
-use Rattle.tables.specs.contracts.executor.Parallel as Parallel
-use Rattle.tables.specs.declared.executor.Executor as Executor
+use Rattle.group_tables.specs.contracts.executor.Parallel as Parallel
+use Rattle.group_tables.specs.declared.executor.Executor as Executor
 
 pub job_sync : (κ : NamedLft) → IsSync (Job.the_row κ)
 job_sync κ = search (plan_sync, std.crosses, sendable) depth 60 fits 20000

@@ -1,5 +1,6 @@
 -- How many records the groups of a partial result have, and of which types they are.
-use Rattle.std.proofs.Common.{◌≡◌, ◌+◌, ◌-◌, ◌<◌, ◌≤◌, ◌^◌, ℕ, List, [], ◌∷◌, length, map, Option, IfSome, refl, sym, ap, subst, ◌∙◌, arith}
+use Rattle.std.proofs.Common.{◌≡◌, ◌+◌, ◌-◌, ◌<◌, ◌≤◌, ◌^◌, ℕ, List, [], ◌∷◌, length, map, Option, IfSome, refl, sym, ap, subst, ◌∙◌, sum_by, arith}
+use Rattle.std.proofs.lemmas.List.Sums.{sum_by-cons}
 use Rattle.std.proofs.lemmas.List.{nil_from_length}
 use Rattle.std.specs.FinMap as fin
 use Rattle.query_resolve.specs.declared.function.FilteredFunction.{FilteredFunction}
@@ -9,15 +10,14 @@ use Rattle.semantics.specs.Columns.{Field}
 use Rattle.semantics.specs.Found.{aggregate_functions}
 use Rattle.semantics.specs.Groups.{Key, Row, key_order}
 use Rattle.semantics.specs.Sets.{grouping_places}
-use Rattle.tables_groups.specs.Bags.{weigh}
-use Rattle.tables_groups.specs.Entries.{entry_at, table_entries}
-use Rattle.tables_groups.specs.Group.{GroupState}
-use Rattle.tables_groups.specs.Table.{CanJoin, Contents, HasFewRecords, IsCounted, IsTableOf, both_tables, lines_of}
-use Rattle.tables_groups.specs.Typed.{AllFit, IsTypedTable}
-use Rattle.tables_groups.proofs.Counted.{both-counted, counted-within, records-counted}
-use Rattle.tables_groups.proofs.Joint.{both_tables-has}
-use Rattle.tables_groups.proofs.Meaning.{within-can_join}
-use Rattle.tables_groups.proofs.Typed.{both-typed, none-typed, records-typed}
+use Rattle.group_tables.specs.Entries.{entry_at, table_entries}
+use Rattle.group_tables.specs.Group.{GroupState}
+use Rattle.group_tables.specs.Table.{CanJoin, Contents, HasFewRecords, IsCounted, IsTableOf, both_tables, lines_of}
+use Rattle.group_tables.specs.Typed.{AllFit, IsTypedTable}
+use Rattle.group_tables.proofs.Counted.{both-counted, counted-within, records-counted}
+use Rattle.group_tables.proofs.Joint.{both_tables-has}
+use Rattle.group_tables.proofs.Meaning.{within-can_join}
+use Rattle.group_tables.proofs.Typed.{both-typed, none-typed, records-typed}
 use Rattle.tables.specs.Functions.{filter_tests}
 use Rattle.tables.proofs.Bound.{bound-functions}
 use Rattle.tables.proofs.Columns.{functions-columns, grouping-columns}
@@ -53,12 +53,12 @@ counted-few functions others lines table e few counted =
 
 -- ---- of a table without groups
 
-empty-lines : (ks : List Key) → weigh (λ k. lines_of (fin.get (fin.empty {X = GroupState} {R = key_order}) k)) ks ≡ 0
+empty-lines : (ks : List Key) → sum_by (λ k. lines_of (fin.get (fin.empty {X = GroupState} {R = key_order}) k)) ks ≡ 0
 empty-lines [] = refl
 empty-lines (k ∷ ks) =
     let here = ap lines_of (fin.get-empty {X = GroupState} key_order k) in
     let rest = empty-lines ks in
-    omega (arith, here, rest)
+    omega (arith, here, rest, sum_by-cons (λ j. lines_of (fin.get (fin.empty {X = GroupState} {R = key_order}) j)) k ks)
 
 pub empty-counted : (functions : List FilteredFunction) (table : Contents) → table ≡ fin.empty → IsCounted 0 functions table
 empty-counted functions table e = subst (IsCounted 0 functions) (sym e) (record {

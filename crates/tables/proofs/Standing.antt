@@ -1,5 +1,5 @@
 -- What a partial result has of pieces that it stands for, part by part.
-use Rattle.std.proofs.Common.{[], ◌∷◌, ◌≡◌, ◌+◌, ◌++◌, List, length, map, refl, sym, ap, subst, ◌∙◌}
+use Rattle.std.proofs.Common.{[], ◌∷◌, ◌≡◌, ◌+◌, ◌++◌, List, length, map, refl, sym, ap, subst, ◌∙◌, sum_by}
 use Rattle.std.proofs.Math.Logic.{∥∥₁_map₂}
 use Rattle.std.specs.Coded.{Coded-set}
 use Rattle.semantics.specs.Conditions.{kept_records}
@@ -8,10 +8,10 @@ use Rattle.semantics.specs.Order.{in_order}
 use Rattle.semantics.specs.Sets.{grouping_places, sets_of}
 use Rattle.query_plan.specs.Planned.{PlannedQuery}
 use Rattle.query_resolve.specs.Functions.{indexed_functions}
-use Rattle.tables_groups.specs.Bags.{SameBag, weigh}
-use Rattle.tables_groups.specs.Table.{Contents, IsTableOf, both_tables}
-use Rattle.tables_groups.proofs.GroupsLaw.{table-is, table_of-is}
-use Rattle.tables_groups.proofs.Sorting.{weigh-in_order}
+use Rattle.group_tables.specs.Bags.{SameBag}
+use Rattle.group_tables.specs.Table.{Contents, IsTableOf, both_tables}
+use Rattle.group_tables.proofs.GroupsLaw.{table-is, table_of-is}
+use Rattle.group_tables.proofs.Sorting.{sum_by-in_order}
 use Rattle.tables.specs.Functions.{filter_texts}
 use Rattle.tables.specs.Laws.{notes-same, pieces-append}
 use Rattle.tables.specs.Notes.{Noted, note_of, note_order}
@@ -63,9 +63,9 @@ has-from plan partial notes pieces ordered stands =
       lines = ap (λ (p : PartialState). p.lines) stands;
       refused = ap (λ (p : PartialState). p.refused) stands;
       notes = λ w.
-          sym (weigh-in_order note_order w (map (note_of plan.fields) pieces))
-          ∙ ap (weigh w) (sym (ap (λ (p : PartialState). p.notes) stands) ∙ ordered)
-          ∙ weigh-in_order note_order w notes;
+          sym (sum_by-in_order note_order w (map (note_of plan.fields) pieces))
+          ∙ ap (sum_by w) (sym (ap (λ (p : PartialState). p.notes) stands) ∙ ordered)
+          ∙ sum_by-in_order note_order w notes;
     }
 
 -- that two partial results are one has one proof at most

@@ -4,11 +4,11 @@ use Rattle.semantics.specs.Sets.{grouping_places}
 use Rattle.semantics.specs.declared.line_fault.LineFault.{LineFault}
 use Rattle.semantics.specs.GroupStates.{EntryForm}
 use Rattle.semantics.specs.Parts.{ContentsForm}
-use Rattle.group_states.specs.States.{entries_of}
+use Rattle.values.specs.GroupStates.{entries_of}
 use Rattle.query_plan.specs.Planned.{PlannedQuery}
 use Rattle.query_resolve.specs.Functions.{indexed_functions}
-use Rattle.tables_groups.specs.Entries.{IsTypedEntry, table_entries}
-use Rattle.tables_groups.specs.Table.{IsCounted}
+use Rattle.group_tables.specs.Entries.{IsTypedEntry, table_entries}
+use Rattle.group_tables.specs.Table.{IsCounted}
 use Rattle.tables.specs.declared.contents.PartialContents.{PartialContents}
 use Rattle.tables.specs.Partials.{HaveOneShape, note_of_one}
 use Rattle.tables.specs.States.{PartialState}

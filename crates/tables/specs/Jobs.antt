@@ -9,7 +9,7 @@ use Rattle.tables.specs.Pieces.{IndexedPiece, piece_at, piece_from}
 use Rattle.tables.specs.States.{PartialState}
 use Rattle.tables.specs.declared.job.Job.{Job}
 use Rattle.tables.specs.declared.job.JobBy.{JobBy}
-use Rattle.tables.specs.declared.executor.Executor as Executor
+use Rattle.group_tables.specs.declared.executor.Executor as Executor
 
 -- the plan whose query is answered
 abbrev pub plan_of_job : Job → PlannedQuery

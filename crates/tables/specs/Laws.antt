@@ -1,12 +1,13 @@
 -- What pieces come to keeps the laws of a work. What is proved here stands beside the definitions since a job cites it.
 use Rattle.std.proofs.Common.{◌≡◌, ◌+◌, ◌≤◌, ℕ, List, ◌∷◌, ◌++◌, zero, suc, length, map, filter_map, option_map, Result, Ok, Err, refl, sym, ap, ◌∙◌, arith, append_assoc, length-append, []}
+use Rattle.std.proofs.lemmas.List.Sums.{sum_by-append}
 use Rattle.std.proofs.lemmas.Grind.{flat_map-append}
 use Rattle.std.proofs.lemmas.List.{map-append, length-map}
 use Rattle.std.proofs.lemmas.List.Elements.{filter-append}
 use Rattle.std.specs.Cmp.{IsTotalOrder, nat_cmp_total, on_total, then_total}
 use Rattle.std.specs.Cmp.Lexicographic.{lists_total}
 use Rattle.std.specs.FinMap.{IsAntisymmetric, nat_cmp-IsAntisymmetric, slice_cmp-IsAntisymmetric}
-use Rattle.std.specs.List.{enumerate_from}
+use Rattle.std.specs.List.{enumerate_from, sum_by}
 use Rattle.std.specs.Ordering.{nat_cmp, ordering_then}
 use Rattle.std.specs.Result.{result_err}
 use Rattle.std.specs.declared.cmp.Ordering.{Ordering}
@@ -25,13 +26,13 @@ use Rattle.semantics.specs.declared.line_fault.LineFault.TheVariants.{TooLong, N
 use Rattle.query_plan.specs.Planned.{PlannedQuery}
 use Rattle.query_resolve.specs.Functions.{indexed_functions}
 use Rattle.pool.specs.Lawful.{Lawful}
-use Rattle.tables_groups.specs.Bags.{SameBag, weigh}
-use Rattle.tables_groups.specs.Table.{table_of}
-use Rattle.tables_groups.proofs.AnyOrder.{table-same}
-use Rattle.tables_groups.proofs.Bags.{bag-filter, bag-flat_map, bag-map, length-bag, weigh-append}
-use Rattle.tables_groups.proofs.GroupsLaw.{table-is, table_of-is}
-use Rattle.tables_groups.proofs.Joint.{table_of-append}
-use Rattle.tables_groups.proofs.Sorting.{in_order-same, weigh-in_order}
+use Rattle.group_tables.specs.Bags.{SameBag}
+use Rattle.group_tables.specs.Table.{table_of}
+use Rattle.group_tables.proofs.AnyOrder.{table-same}
+use Rattle.group_tables.proofs.Bags.{bag-filter, bag-flat_map, bag-map, length-bag}
+use Rattle.group_tables.proofs.GroupsLaw.{table-is, table_of-is}
+use Rattle.group_tables.proofs.Joint.{table_of-append}
+use Rattle.group_tables.proofs.Sorting.{in_order-same, sum_by-in_order}
 use Rattle.tables.specs.Functions.{filter_texts}
 use Rattle.tables.specs.Jobs.{reduction_of}
 use Rattle.tables.specs.Notes.{Noted, fault_number, line_order, note_of, note_order}
@@ -147,11 +148,11 @@ pieces-append plan xs ys =
     let count = lines-append xs ys in
     let refused = refused-append plan.fields xs ys in
     let notes = notes-same (map note (xs ++ ys)) (in_order note_order (map note xs) ++ in_order note_order (map note ys)) (λ w.
-    let a = ap (weigh w) (map-append note xs ys) in
-    let b = weigh-append w (map note xs) (map note ys) in
-    let c = weigh-append w (in_order note_order (map note xs)) (in_order note_order (map note ys)) in
-    let d = weigh-in_order note_order w (map note xs) in
-    let e = weigh-in_order note_order w (map note ys) in
+    let a = ap (sum_by w) (map-append note xs ys) in
+    let b = sum_by-append w (map note xs) (map note ys) in
+    let c = sum_by-append w (in_order note_order (map note xs)) (in_order note_order (map note ys)) in
+    let d = sum_by-in_order note_order w (map note xs) in
+    let e = sum_by-in_order note_order w (map note ys) in
     omega (arith, a, b, c, d, e)) in
     λ i. record {
       sets = sets_of plan.fields plan.query;
@@ -171,7 +172,7 @@ unit-both plan xs = sym (pieces-append plan [] xs)
 pub both-flip : (plan : PlannedQuery) (xs ys : List IndexedPiece) → both (of_pieces plan xs) (of_pieces plan ys) ≡ both (of_pieces plan ys) (of_pieces plan xs)
 both-flip plan xs ys =
     sym (pieces-append plan xs ys)
-    ∙ pieces-same plan (xs ++ ys) (ys ++ xs) (λ w. let a = weigh-append w xs ys in let b = weigh-append w ys xs in omega (arith, a, b))
+    ∙ pieces-same plan (xs ++ ys) (ys ++ xs) (λ w. let a = sum_by-append w xs ys in let b = sum_by-append w ys xs in omega (arith, a, b))
     ∙ pieces-append plan ys xs
 
 pub both-assoc : (plan : PlannedQuery) (xs ys zs : List IndexedPiece)

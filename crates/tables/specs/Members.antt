@@ -1,10 +1,10 @@
 -- The members that the rows of groups stand for, over all rows of a grouping set.
 use Rattle.std.specs.Prelude.{◌≡◌, ◌==◌, ◌<◌, ℕ, List, filter, length}
-use Rattle.std.specs.List.{flat_map}
+use Rattle.std.specs.List.{flat_map, sum_by}
 use Rattle.semantics.specs.Sets.{sets_of}
 use Rattle.semantics.specs.Conditions.{kept_records}
 use Rattle.semantics.specs.Groups.{Row, members}
-use Rattle.tables_groups.specs.Bags.{SameBag, weigh}
+use Rattle.group_tables.specs.Bags.{SameBag}
 use Rattle.semantics.specs.Found.{set_of, Found}
 use Rattle.query_plan.specs.Planned.{PlannedQuery}
 
@@ -19,5 +19,5 @@ members_of_row plan rows row = members (set_of plan.fields plan.query row) row.1
 -- Of each grouping set the numbers of members that its rows show add up to the number of the records that WHERE keeps,
 -- and the members that its rows stand for, joined, are these records, each as often.
 pub record HasEachRecordOnce (plan : PlannedQuery) (found : List Found) (rows : List Row) : Type 0 where
-  pub lines : (index : ℕ) → index < length (sets_of plan.fields plan.query) → weigh (λ row. row.1.lines) (rows_of_set index found) ≡ length (kept_records plan.fields plan.query rows)
+  pub lines : (index : ℕ) → index < length (sets_of plan.fields plan.query) → sum_by (λ row. row.1.lines) (rows_of_set index found) ≡ length (kept_records plan.fields plan.query rows)
   pub members : (index : ℕ) → index < length (sets_of plan.fields plan.query) → SameBag (flat_map (members_of_row plan rows) (rows_of_set index found)) (kept_records plan.fields plan.query rows)

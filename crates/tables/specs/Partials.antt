@@ -12,8 +12,8 @@ use Rattle.semantics.specs.Records.{refused_lines, valid_records}
 use Rattle.semantics.specs.Sets.{grouping_places, sets_of}
 use Rattle.query_plan.specs.Planned.{PlannedQuery}
 use Rattle.query_resolve.specs.Functions.{indexed_functions}
-use Rattle.tables_groups.specs.Bags.{SameBag}
-use Rattle.tables_groups.specs.Table.{both_tables, table_of}
+use Rattle.group_tables.specs.Bags.{SameBag}
+use Rattle.group_tables.specs.Table.{both_tables, table_of}
 use Rattle.tables.specs.Functions.{filter_texts}
 use Rattle.tables.specs.Notes.{Noted, note_of, note_order, refused_lines_from}
 use Rattle.tables.specs.Pieces.{IndexedPiece, IsCutInto, all_lines, records_of, refused_lines_within}

@@ -8,7 +8,7 @@ use Rattle.semantics.specs.Lines.{lines}
 use Rattle.semantics.specs.Records.{valid_records, refused_lines}
 use Rattle.lines.specs.Pieces.{AllButLast, EndsInFeed, bytes_of}
 use Rattle.lines.specs.declared.pieces.Piece.{Piece}
-use Rattle.tables_groups.specs.Bags.{SameBag}
+use Rattle.group_tables.specs.Bags.{SameBag}
 use Rattle.semantics.specs.Groups.{Row}
 
 -- a piece of an input: its index among the pieces, and its bytes

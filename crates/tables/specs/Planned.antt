@@ -2,13 +2,13 @@
 use Rattle.std.specs.Prelude.{◌≡◌, List, map, ℕ}
 use Rattle.semantics.specs.Sets.{grouping_places}
 use Rattle.semantics.specs.Conditions.{kept_records}
-use Rattle.tables_groups.specs.declared.group.Group.{Group}
-use Rattle.tables_groups.specs.Bags.{SameBag}
+use Rattle.group_tables.specs.declared.group.Group.{Group}
+use Rattle.group_tables.specs.Bags.{SameBag}
 use Rattle.semantics.specs.Groups.{Key, members, Row}
-use Rattle.tables_groups.specs.GroupSummaries.{group_summaries, group_summary_in}
-use Rattle.tables_groups.specs.Rolled.{AreAmong, finer_members}
+use Rattle.group_tables.specs.GroupSummaries.{group_summaries, group_summary_in}
+use Rattle.group_tables.specs.Rolled.{AreAmong, finer_members}
 use Rattle.query_plan.specs.Planned.{PlannedQuery}
-use Rattle.tables_groups.specs.Fitting.{AreFitting}
+use Rattle.group_tables.specs.Fitting.{AreFitting}
 use Rattle.semantics.specs.Found.{Found, aggregate_functions}
 use Rattle.tables.specs.Members.{HasEachRecordOnce}
 use Rattle.tables.specs.Partials.{GivesGroups, IsResultOf, StandsFor}

@@ -3,8 +3,8 @@ use Rattle.std.specs.Prelude.{◌≡◌}
 use Rattle.semantics.specs.Sets.{grouping_places, sets_of}
 use Rattle.query_plan.specs.Planned.{PlannedQuery}
 use Rattle.query_resolve.specs.Functions.{indexed_functions}
-use Rattle.tables_groups.specs.Table.{Contents}
-use Rattle.tables_groups.specs.Typed.{IsTypedTable}
+use Rattle.group_tables.specs.Table.{Contents}
+use Rattle.group_tables.specs.Typed.{IsTypedTable}
 use Rattle.tables.specs.Functions.{filter_texts}
 use Rattle.tables.specs.States.{PartialState}
 

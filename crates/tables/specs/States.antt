@@ -2,7 +2,7 @@
 use Rattle.std.specs.Prelude.{ℕ, List}
 use Rattle.semantics.specs.declared.line_fault.LineFault.{LineFault}
 use Rattle.query_resolve.specs.declared.function.FilteredFunction.{FilteredFunction}
-use Rattle.tables_groups.specs.Table.{Contents}
+use Rattle.group_tables.specs.Table.{Contents}
 use Rattle.semantics.specs.Found.{Found}
 use Rattle.tables.specs.Notes.{Noted}
 

@@ -1,6 +1,6 @@
 //! What a partial result contains, as plain values.
-use group_states::GroupEntry;
 use lines::LineFault;
+use values::GroupEntry;
 
 /// What a partial result contains, apart from the query that it is of.
 ///

@@ -5,12 +5,11 @@ ghost use Rattle.semantics.specs.Groups.{Row};
 ghost use Rattle.tables.specs.Inside.Folding.{HasRead, HasRoomUnder, IsTableOfKept};
 ghost use Rattle.tables.specs.Folding.{refused_lines_of};
 
-use crate::executor::Executor;
 use crate::refusals::Refusals;
+use group_tables::{Executor, Table};
 use lines::{Line, LineRefusal, RecordReader, checked_lines_of};
 use query_plan::{Plan, holds};
 use std::alloc::{AllocError, Global};
-use tables_groups::Table;
 use values::{Record, Truth};
 
 /// The lines of a piece, as far as they have been read.
@@ -109,7 +108,8 @@ pub(crate) fn empty_table<E: Executor>(
 ) -> Result<Table, AllocError>
     ensures { IfOk result (λ table. IsTableOfKept plan.now table []) }
 {
-    executor.empty_table(alloc, plan.grouping(), plan.set_functions())
+    let (seed, hands) = (executor.seed(), executor.hands());
+    Table::new(alloc, seed, hands, plan.grouping(), plan.set_functions())
 }
 
 /// The table of no records of a plan, to which the executor puts those of one piece.
@@ -120,7 +120,8 @@ pub(crate) fn piece_table<E: Executor>(
 ) -> Result<Table, AllocError>
     ensures { IfOk result (λ table. IsTableOfKept plan.now table []) }
 {
-    executor.piece_table(alloc, plan.grouping(), plan.set_functions())
+    let seed = executor.seed();
+    Table::new(alloc, seed, 1, plan.grouping(), plan.set_functions())
 }
 
 /// Reads the lines of a piece behind the records that a table has.

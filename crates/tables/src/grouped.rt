@@ -1,15 +1,15 @@
 //! The groups of an input, and its refused lines.
-ghost use Rattle.std.specs.Prelude.{◌≡◌, ◌<◌, map};
+ghost use Rattle.std.specs.Prelude.{◌≡◌, map};
 ghost use Rattle.std.proofs.Props.{props};
 ghost use Rattle.tables.specs.Planned.{FitSomePlan};
-ghost use Rattle.tables_groups.specs.Found.{row_of};
+ghost use Rattle.group_tables.specs.Found.{row_of};
 
+use group_tables::{Executor, Group, Operation};
 use lines::LineFault;
 use std::alloc::Global;
 use std::marker::{Model, Sync};
 use std::thread;
 use std::thread::Threads;
-use tables_groups::Group;
 
 /// The least number of groups whose memory several threads give back: that of fewer is back before a thread starts.
 const PARALLEL_MIN_GROUPS: usize = 4_096;
@@ -40,7 +40,7 @@ impl Drop for Groups {
 
 impl Model for Groups {
     ghost use Rattle.std.specs.Prelude.{map};
-    ghost use Rattle.tables_groups.specs.Found.{row_of};
+    ghost use Rattle.group_tables.specs.Found.{row_of};
     ghost use Rattle.tables.specs.States.{GroupsState};
 
     ghost Value = { GroupsState };
@@ -74,15 +74,40 @@ impl Groups {
         self.refused.as_slice()
     }
 
-    /// Gives the memory of the groups back, by as many threads as there are hands, the calling one among them, or by fewer
-    /// where the groups are few or a thread cannot be started. There is a hand.
+    /// Gives the memory of the groups back; the executor does so.
     ///
-    /// Example: `groups.give_back_among(&rt, alloc, 4)` does what `drop(groups)` does.
-    pub fn give_back_among<H: Threads + Sync>(self, rt: &H, alloc: Global, hands: usize)
-        requires { 0 < hands }
+    /// Example: `groups.give_back(&Parallel { rt: &rt, workers: 4, seed }, alloc)` does what `drop(groups)` does.
+    pub fn give_back<E: Executor>(self, executor: &E, alloc: Global)
+        requires ready { E.ready executor.now }
     {
-        let Groups { refused, mut rows } = self;
+        let Groups { refused, rows } = self;
         drop(refused);
+        executor.perform(GiveBack { alloc, rows });
+    }
+}
+
+/// Groups whose memory is to be given back.
+#[derive(Drop)]
+struct GiveBack {
+    alloc: Global,
+    rows: Vec<(usize, Group)>,
+}
+
+impl Operation for GiveBack {
+    ghost use Rattle.std.specs.Prelude.{⊤};
+
+    type Output = ();
+
+    ghost can_run = { λ _. ⊤ };
+
+    ghost can_give = { λ _ _. ⊤ };
+
+    fn run_alone(self) {
+        drop(self);
+    }
+
+    fn run_among<H: Threads + Sync>(self, rt: &H, hands: usize) {
+        let GiveBack { alloc, mut rows } = self;
         if hands == 1 || rows.len() < PARALLEL_MIN_GROUPS {
             return;
         }

@@ -1,10 +1,11 @@
 //! The pieces of an input as a work for a pool.
-ghost use Rattle.std.specs.Prelude.{◌≡◌, ◌≤◌, ◌<◌, ◌+◌, ◌^◌, min, All, length};
+ghost use Rattle.std.specs.Prelude.{◌≡◌, ◌≤◌, ◌<◌, ◌+◌, min, All, length, ◌^◌, ◌-◌};
 ghost use Rattle.std.proofs.Props.{props};
 ghost use Rattle.tables.specs.Pieces.{piece_at};
+ghost use Rattle.semantics.specs.Limits.{input_limit};
 
-use crate::executor::Executor;
 use crate::partial::Partial;
+use group_tables::Executor;
 use lines::Piece;
 use pool::Work;
 use query_plan::Plan;
@@ -23,7 +24,7 @@ pub struct Job<'a> {
     plan: &'a Plan,
     input: &'a [u8],
     pieces: &'a [Piece],
-    ghost short: { length input.now < 2 ^ 63 },
+    ghost short: { length input.now < input_limit },
     ghost ordered: { All (λ piece. piece.start ≤ piece.stop) pieces.now } by { Prim.hlevel props },
     ghost within: { All (λ piece. piece.stop ≤ length input.now)
         pieces.now } by { Prim.hlevel props },
@@ -41,7 +42,7 @@ impl<'a> Job<'a> {
     /// Example: where `pieces` are those of `cut(alloc, input, 1_048_576)?`,
     /// `Job::new(alloc, &plan, input, pieces.as_slice())` is the job over the whole input.
     pub fn new(alloc: Global, plan: &'a Plan, input: &'a [u8], pieces: &'a [Piece]) -> Job<'a>
-        requires short { length input.now < 2 ^ 63 }
+        requires short { length input.now < input_limit }
         requires ordered { All (λ piece. piece.start ≤ piece.stop) pieces.now }
         requires within { All (λ piece. piece.stop ≤ length input.now) pieces.now }
         ensures plan { plan_of_job result ≡ plan.now }
@@ -59,7 +60,7 @@ impl<'a> Job<'a> {
     /// The bytes of the piece with this index, and none past the last piece.
     fn bytes(&self, index: u32) -> &[u8]
         ensures bytes { result.now ≡ (piece_at self.now.input.now self.now.pieces.now index).bytes }
-        ensures short { length result.now < 2 ^ 63 }
+        ensures short { length result.now < input_limit }
     {
         match self.pieces.get(index as usize) {
             Some(piece) => &self.input[piece.start..piece.stop],
@@ -142,7 +143,7 @@ impl<'a, E: Executor> JobBy<'a, E> {
 
     /// The index of the piece that comes so many behind the first one.
     fn index(&self, place: u32) -> u32
-        ensures { result ≡ min (self.now.first + place) 4294967295 }
+        ensures { result ≡ min (self.now.first + place) (2 ^ 32 - 1) }
     {
         self.first.saturating_add(place)
     }

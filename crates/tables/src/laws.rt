@@ -7,7 +7,7 @@ ghost use Rattle.semantics.specs.Found.{query_found};
 ghost use Rattle.semantics.specs.Groups.{Row};
 ghost use Rattle.semantics.specs.Parts.{contents_over};
 ghost use Rattle.query_plan.specs.Planned.{PlannedQuery};
-ghost use Rattle.tables_groups.specs.Bags.{SameBag};
+ghost use Rattle.group_tables.specs.Bags.{SameBag};
 ghost use Rattle.tables.specs.Contents.{HasContents};
 ghost use Rattle.tables.specs.Jobs.{total_of};
 ghost use Rattle.tables.specs.Members.{HasEachRecordOnce};
@@ -60,7 +60,7 @@ pub fn records_law()
     ensures { (plan : PlannedQuery) (rows others : List Row) → SameBag rows others → SameBag
         (query_found plan.fields plan.query rows) (query_found plan.fields plan.query others) }
 {
-    tables_groups::records_law();
+    group_tables::records_law();
 }
 
 /// A law: where groups are those that a query finds in a list of records, each record that WHERE keeps is a member of
@@ -69,7 +69,7 @@ pub fn members_law()
     ensures { (plan : PlannedQuery) (groups : GroupsState) (rows : List Row)
         → GivesGroups plan groups rows → HasEachRecordOnce plan groups.found rows }
 {
-    tables_groups::members_law();
+    group_tables::members_law();
 }
 
 /// A law: a plan can finish each result of its own over some pieces; so it can what two come to that it can finish, and what
@@ -91,7 +91,7 @@ pub fn contents_law()
         → HasContents partial (contents_over plan.fields plan.query input)
         → StandsForInput plan partial input }
 {
-    tables_groups::entries_law();
+    group_tables::entries_law();
 }
 
 /// A law: what all pieces of a job come to, one after the other, is what they come to; and the weights and the loads of

@@ -4,10 +4,10 @@
 #![tactic(auto)]
 
 mod contents;
-mod executor;
 mod folding;
 mod grouped;
 mod job;
+mod joining;
 mod laws;
 mod numbering;
 mod partial;
@@ -18,7 +18,7 @@ mod rows;
 mod shape;
 
 pub use contents::PartialContents;
-pub use executor::{Executor, Parallel, Serial};
+pub use group_tables::{Cell, Executor, Group, HashSeed, Parallel, Serial};
 pub use grouped::Groups;
 pub use job::{Job, JobBy};
 pub use laws::{
@@ -26,5 +26,3 @@ pub use laws::{
     records_law, sound_law,
 };
 pub use partial::Partial;
-pub use rolling::{Roll, SetTable};
-pub use tables_groups::{Cell, Group, HashSeed};

@@ -1,8 +1,9 @@
 //! The refused lines of all pieces by their numbers in the input.
-ghost use Rattle.std.specs.Prelude.{◌≡◌, ◌+◌, ◌<◌, ◌++◌, ◌^◌, IfOk, OnOk, All};
+ghost use Rattle.std.specs.Prelude.{◌≡◌, ◌+◌, ◌<◌, ◌++◌, IfOk, OnOk, All};
 ghost use Rattle.std.specs.List.Sorted.{IsPermutation, IsNonDecreasingBy};
 ghost use Rattle.tables.specs.Inside.Notes.{AreLinesBehind, AreLinesOf};
 ghost use Rattle.tables.specs.Notes.{IsWellNumbered, line_count, notes_in, refused_lines_from};
+ghost use Rattle.semantics.specs.Limits.{input_limit};
 
 use crate::piece_refusals::PieceRefusals;
 use crate::refusals::Refusals;
@@ -17,7 +18,7 @@ pub(crate) fn number(
     count: u64,
     notes: Vec<PieceRefusals>,
 ) -> Result<Vec<(u64, LineFault)>, AllocError>
-    requires few { line_count (notes_in notes) < 2 ^ 63 }
+    requires few { line_count (notes_in notes) < input_limit }
     requires numbered { All IsWellNumbered (notes_in notes) }
     ensures { IfOk result (λ lines. AreLinesOf (notes_in notes) lines.items) }
 {
@@ -27,7 +28,7 @@ pub(crate) fn number(
 
 /// The refused lines of the pieces by ascending index, numbered as in `number`, without a list of them.
 pub(crate) fn gather(alloc: Global, notes: Vec<PieceRefusals>) -> Result<Refusals, AllocError>
-    requires few { line_count (notes_in notes) < 2 ^ 63 }
+    requires few { line_count (notes_in notes) < input_limit }
     requires numbered { All IsWellNumbered (notes_in notes) }
     ensures { IfOk result (AreLinesOf (notes_in notes)) }
 {
@@ -42,7 +43,7 @@ pub(crate) fn gather_behind(
     before: u64,
     notes: Vec<PieceRefusals>,
 ) -> Result<(), AllocError>
-    requires few { before + line_count (notes_in notes) < 2 ^ 63 }
+    requires few { before + line_count (notes_in notes) < input_limit }
     requires numbered { All IsWellNumbered (notes_in notes) }
     ensures { OnOk result
         (AreLinesBehind before (notes_in notes) gathered.old gathered.new) }
@@ -67,7 +68,7 @@ fn list_in_order(
     count: u64,
     notes: Vec<PieceRefusals>,
 ) -> Result<Vec<(u64, LineFault)>, AllocError>
-    requires few { line_count (notes_in notes) < 2 ^ 63 }
+    requires few { line_count (notes_in notes) < input_limit }
     requires numbered { All IsWellNumbered (notes_in notes) }
     ensures { IfOk result (λ lines. lines.items ≡ refused_lines_from 0 (notes_in notes)) }
 {
@@ -83,7 +84,7 @@ fn list_in_order(
 /// The refused lines of the pieces in the order of the notes, each numbered by its place within its piece and the line
 /// counts of the pieces before. Those of the first piece have these numbers already, and stay as they are.
 fn gather_in_order(alloc: Global, mut notes: Vec<PieceRefusals>) -> Result<Refusals, AllocError>
-    requires few { line_count (notes_in notes) < 2 ^ 63 }
+    requires few { line_count (notes_in notes) < input_limit }
     requires numbered { All IsWellNumbered (notes_in notes) }
     ensures { IfOk result (λ lines. lines ≡ refused_lines_from 0 (notes_in notes)) }
 {
@@ -103,7 +104,7 @@ fn put_all_behind(
     mut before: u64,
     notes: Vec<PieceRefusals>,
 ) -> Result<(), AllocError>
-    requires few { before + line_count (notes_in notes) < 2 ^ 63 }
+    requires few { before + line_count (notes_in notes) < input_limit }
     requires numbered { All IsWellNumbered (notes_in notes) }
     ensures { OnOk result
         (gathered.new ≡ gathered.old ++ refused_lines_from before (notes_in notes)) }

@@ -1,27 +1,28 @@
 //! Partial results: what is known of some pieces of an input.
-ghost use Rattle.std.specs.Prelude.{◌≡◌, ◌<◌, ◌≤◌, ◌^◌, ◌∷◌, [], All, IfOk, length};
+ghost use Rattle.std.specs.Prelude.{◌≡◌, ◌<◌, ◌≤◌, ◌∷◌, [], All, IfOk, length};
 ghost use Rattle.tables.specs.declared.piece_refusals.PieceRefusals.{PieceRefusals};
 ghost use Rattle.std.proofs.Props.{props};
 ghost use Rattle.tables.specs.Notes.{IsWellNumbered, line_count, notes_in};
 ghost use Rattle.tables.specs.Partials.{notes_of_one};
-ghost use Rattle.tables_groups.specs.Table.{IsCounted};
+ghost use Rattle.group_tables.specs.Table.{IsCounted};
+ghost use Rattle.semantics.specs.Limits.{input_limit};
 
 use crate::contents::PartialContents;
-use crate::executor::{Executor, Serial};
 use crate::folding::{Folding, empty_table, piece_table, read_onto};
 use crate::grouped::Groups;
+use crate::joining::merge_tables;
 use crate::laws::members_law;
 use crate::numbering::{gather, gather_behind, number};
 use crate::piece_refusals::PieceRefusals;
 use crate::refusals::Refusals;
 use crate::rows::rows_of;
 use crate::shape::Shape;
-use group_states::GroupEntry;
+use group_tables::{Executor, Group, Serial, Table, entries_law, roll_law};
 use lines::LineFault;
 use query_plan::Plan;
 use std::alloc::{AllocError, Global};
 use std::marker::Model;
-use tables_groups::{Group, Table, entries_law, roll_law};
+use values::GroupEntry;
 
 /// The result of a query over some pieces of an input: the groups of their valid records that are kept, the counts
 /// of their lines, and their refused lines.
@@ -37,7 +38,7 @@ pub struct Partial {
     lines: u64,
     refused: u64,
     notes: Vec<PieceRefusals>,
-    ghost few: { lines < 2 ^ 63 },
+    ghost few: { lines < input_limit },
     ghost fewer: { refused ≤ lines },
     ghost within: { IsCounted lines shape.functions.items table } by { Prim.hlevel props },
     ghost counted: { line_count (notes_in notes) ≡ lines },
@@ -67,7 +68,7 @@ impl Model for Partial {
     ghost use Rattle.semantics.specs.contracts.line_fault.LineFault as line_fault;
     ghost use Rattle.query_resolve.specs.contracts.function.FilteredFunction as filtered_function;
     ghost use Rattle.query_resolve.specs.Resolution.{contents};
-    ghost use Rattle.tables_groups.specs.Table.{coded_contents};
+    ghost use Rattle.group_tables.specs.Table.{coded_contents};
     ghost use Rattle.semantics.specs.Order.{in_order};
     ghost use Rattle.tables.specs.Notes.{note_order, notes_in};
     ghost use Rattle.tables.specs.States.{PartialState};
@@ -94,9 +95,9 @@ impl Partial {
     ghost use Rattle.semantics.specs.Groups.{Key, Row};
     ghost use Rattle.tables.specs.Partials.{DiffersInNotes, HasOwnIndexes, HaveOneShape, IsPartialOf, StandsFor, StandsForInput, as_one, both, concatenation, none, of_piece};
     ghost use Rattle.tables.specs.Planned.{AreGroupingColumns, GivesGroupsOfSet, HasMembersOfFiner, IsFinishOf};
-    ghost use Rattle.group_states.specs.States.{entry_of};
+    ghost use Rattle.values.specs.GroupStates.{entry_of};
     ghost use Rattle.query_plan.specs.Planned.{PlannedQuery};
-    ghost use Rattle.tables_groups.specs.Entries.{IsBehind, IsEntryFor};
+    ghost use Rattle.group_tables.specs.Entries.{IsBehind, IsEntryFor};
     ghost use Rattle.tables.specs.Contents.{DiffersInGroups, HasGroupBehind, HasMembersWithin, HasRefusals, HasRoomFor, IsTypedEntryUnder, contents_of, groups_in};
     ghost use Rattle.semantics.specs.Parts.{contents_over};
     ghost use Rattle.tables.specs.Sound.{IsSoundUnder};
@@ -158,7 +159,7 @@ impl Partial {
         index: u32,
         piece: &[u8],
     ) -> Result<Partial, AllocError>
-        requires { length piece.now < 2 ^ 63 }
+        requires { length piece.now < input_limit }
         ensures { IfOk result (λ partial.
             partial ≡ of_piece plan.now (record { index = index; bytes = piece.now })) }
     {
@@ -179,7 +180,7 @@ impl Partial {
         index: u32,
         piece: &[u8],
     ) -> Result<Partial, AllocError>
-        requires { length piece.now < 2 ^ 63 }
+        requires { length piece.now < input_limit }
         ensures { IfOk result (λ partial.
             partial ≡ of_piece plan.now (record { index = index; bytes = piece.now })) }
     {
@@ -223,7 +224,7 @@ impl Partial {
     /// `AllocError` where there is no memory for it; what was there is given up then.
     pub fn fold_onto(self, plan: &Plan, index: u32, piece: &[u8]) -> Result<Partial, AllocError>
         requires of_plan { IsPartialOf plan.now self }
-        requires few { self.lines + length (lines piece.now) < 2 ^ 63 }
+        requires few { self.lines + length (lines piece.now) < input_limit }
         ensures { IfOk result (λ partial. partial
             ≡ both self (of_piece plan.now (record { index = index; bytes = piece.now }))) }
     {
@@ -256,7 +257,7 @@ impl Partial {
         ensures lines { result ≡ self.now.lines }
         ensures of_pieces { (plan : PlannedQuery) (pieces : List IndexedPiece)
             → StandsFor plan self.now pieces → result ≡ length (all_lines pieces) }
-        ensures few { result < 2 ^ 63 }
+        ensures few { result < input_limit }
     {
         self.lines
     }
@@ -298,7 +299,7 @@ impl Partial {
     /// `AllocError` where there is no memory for it; both are given up then.
     pub fn merge(self, other: Partial) -> Result<Partial, AllocError>
         requires one_shape { HaveOneShape self other }
-        requires few { self.lines + other.lines < 2 ^ 63 }
+        requires few { self.lines + other.lines < input_limit }
         ensures { IfOk result (λ partial. partial ≡ both self other) }
     {
         self.merge_by(&Serial, other)
@@ -315,7 +316,7 @@ impl Partial {
     pub fn merge_by<E: Executor>(self, executor: &E, other: Partial) -> Result<Partial, AllocError>
         requires ready { E.ready executor.now }
         requires one_shape { HaveOneShape self other }
-        requires few { self.lines + other.lines < 2 ^ 63 }
+        requires few { self.lines + other.lines < input_limit }
         ensures { IfOk result (λ partial. partial ≡ both self other) }
     {
         let Partial {
@@ -336,7 +337,7 @@ impl Partial {
         } = other;
         drop(other_shape);
         notes.append(&mut other_notes)?;
-        let merged = executor.merge_tables(table, other_table)?;
+        let merged = merge_tables(executor, table, other_table)?;
         Ok(Partial {
             alloc,
             shape,
@@ -361,7 +362,7 @@ impl Partial {
     /// `AllocError` where there is no memory for it; both are given up then.
     pub fn follow(self, rest: Partial) -> Result<Partial, AllocError>
         requires one_shape { HaveOneShape self rest }
-        requires few { self.lines + rest.lines < 2 ^ 63 }
+        requires few { self.lines + rest.lines < input_limit }
         ensures stands { HasOwnIndexes self → HasOwnIndexes rest
             → IfOk result (λ whole. whole ≡ concatenation self rest) }
         // In whatever order refused lines of one index are numbered.
@@ -381,7 +382,7 @@ impl Partial {
     pub fn follow_by<E: Executor>(self, executor: &E, rest: Partial) -> Result<Partial, AllocError>
         requires ready { E.ready executor.now }
         requires one_shape { HaveOneShape self rest }
-        requires few { self.lines + rest.lines < 2 ^ 63 }
+        requires few { self.lines + rest.lines < input_limit }
         ensures stands { HasOwnIndexes self → HasOwnIndexes rest
             → IfOk result (λ whole. whole ≡ concatenation self rest) }
         // In whatever order refused lines of one index are numbered.
@@ -405,7 +406,7 @@ impl Partial {
         } = rest;
         drop(rest_shape);
         let lines = before + rest_lines;
-        let merged = executor.merge_tables(table, rest_table)?;
+        let merged = merge_tables(executor, table, rest_table)?;
         let mut gathered = gather(alloc, notes)?;
         gather_behind(&mut gathered, before, rest_notes)?;
         let notes = one_note(
@@ -440,7 +441,7 @@ impl Partial {
     /// `AllocError` where there is no memory for it; what was there is given up then.
     pub fn fold_behind(self, plan: &Plan, rest: &[u8]) -> Result<Partial, AllocError>
         requires of_plan { IsPartialOf plan.now self }
-        requires few { self.lines + length (lines rest.now) < 2 ^ 63 }
+        requires few { self.lines + length (lines rest.now) < input_limit }
         ensures stands { HasOwnIndexes self → IfOk result (λ whole. whole
             ≡ concatenation self (of_piece plan.now (record { index = 0; bytes = rest.now }))) }
     {
@@ -586,7 +587,7 @@ impl Partial {
     {
         let table = self.table.roll(plan.grouping(), set, plan.set_functions())?;
         roll_law();
-        table.finish()
+        table.finish(&Serial)
     }
 
     /// What the result contains. Of a result over the pieces of an input, its refused lines are numbered in the input, and
@@ -639,7 +640,7 @@ impl Partial {
         lines: u64,
         refused: Vec<(u64, LineFault)>,
     ) -> Result<Partial, AllocError>
-        requires few { lines < 2 ^ 63 }
+        requires few { lines < input_limit }
         requires fewer { length refused.items ≤ lines }
         requires numbered { All (λ line. line.0 ≤ lines) refused.items }
         ensures sound { IfOk result (IsSoundUnder plan.now) }
@@ -648,7 +649,7 @@ impl Partial {
         ensures within { IfOk result (HasMembersWithin 0) }
     {
         let shape = Shape::of(alloc, plan)?;
-        let table = executor.table_without_groups(alloc)?;
+        let table = Table::for_entries(alloc, executor.seed(), executor.hands())?;
         let count = refused.len() as u64;
         let refusals = Refusals::of(alloc, refused.as_slice())?;
         drop(refused);

@@ -4,36 +4,35 @@ ghost use Rattle.std.specs.List.{Any};
 ghost use Rattle.std.specs.List.Sorted.{IsPermutation};
 ghost use Rattle.query_resolve.specs.Resolution.{contents};
 ghost use Rattle.query_resolve.specs.declared.function.FilteredFunction.{FilteredFunction};
-ghost use Rattle.tables_groups.specs.Rolled.{AreAmong};
-ghost use Rattle.tables_groups.specs.Table.{HasFewRecords};
-ghost use Rattle.tables.specs.Properties.{HasProperty, Property};
-ghost use Rattle.tables.specs.Inside.SetTables.{AreGroupsOfRolls, HasFiner, HasGroupsOf, HaveFiner, HaveProperty, HavePropertyWhereMade, KeepsOthers, NoneHasIndex, StandsAtIndex, sets_of_rolls, sets_of_tables};
-ghost use Rattle.tables.specs.SetTables.{HasRolled, set_of_roll};
+ghost use Rattle.group_tables.specs.Rolled.{AreAmong};
+ghost use Rattle.group_tables.specs.Table.{HasFewRecords};
+ghost use Rattle.tables.specs.Inside.Properties.{HasProperty, Property};
+ghost use Rattle.tables.specs.Inside.SetTables.{AreGroupsOfRolls, AreRolled, HasFiner, HasGroupsOf, HasRolled, HaveFiner, HaveProperty, HavePropertyWhereMade, KeepsOthers, NoneHasIndex, StandsAtIndex, set_of_roll, sets_of_rolls, sets_of_tables};
 
-use crate::executor::Executor;
+use group_tables::{Executor, Group, Operation, Table};
 use query_plan::FilteredFunction;
 use std::alloc::{AllocError, Global};
-use tables_groups::{Group, Table};
+use std::marker::Sync;
+use std::thread;
+use std::thread::Threads;
 
 /// The table of a grouping set.
 ///
 /// Example: a query with GROUP BY ROLLUP of two columns has three of them: of both columns, of the first one, and of
 /// the empty set.
 #[derive(Drop)]
-pub struct SetTable {
+pub(crate) struct SetTable {
     /// The places of the columns of the set, from 0.
-    pub set: Vec<usize>,
+    set: Vec<usize>,
     /// The groups of the records under the set.
-    pub table: Table,
+    table: Table,
     /// Where the set stands in the list of grouping sets, if it does.
     index: Option<usize>,
 }
 
 /// A grouping set of a list whose table is to be rolled out of another one, and the table where that was done.
-///
-/// Example: `Executor::roll_each` gets some, and leaves in each the table, or none where there was no memory for it.
 #[derive(Drop)]
-pub struct Roll {
+pub(crate) struct Roll {
     set: Vec<usize>,
     index: usize,
     table: Option<Table>,
@@ -43,9 +42,7 @@ impl Roll {
     /// Makes the table, out of another one.
     ///
     /// That is a table for these set functions, of fewer than 2^63 records, and has the columns of the set.
-    ///
-    /// Example: an executor that works alone calls it for one roll after the other.
-    pub fn roll(&mut self, finer: &SetTable, functions: &[FilteredFunction])
+    fn roll(&mut self, finer: &SetTable, functions: &[FilteredFunction])
         requires few { HasFewRecords functions.now finer.now.table }
         requires among { AreAmong (set_of_roll self.old) finer.now.set.items }
         ensures rolled { HasRolled functions.now finer.now self.old self.new }
@@ -55,6 +52,85 @@ impl Roll {
             .roll(finer.set.as_slice(), self.set.as_slice(), functions);
         self.table = rolled.ok();
     }
+}
+
+/// The tables of some rolls, which are to be made out of one table; a roll is left without one where there is no memory
+/// for it.
+struct RollSets<'a> {
+    finer: &'a SetTable,
+    rolls: Vec<Roll>,
+    functions: &'a [FilteredFunction],
+}
+
+impl<'a> Operation for RollSets<'a> {
+    ghost use Rattle.std.specs.Prelude.{◌≡◌, All, length};
+    ghost use Rattle.group_tables.specs.Table.{HasFewRecords};
+    ghost use Rattle.group_tables.specs.Rolled.{AreAmong};
+    ghost use Rattle.tables.specs.Inside.SetTables.{AreRolled, set_of_roll};
+
+    type Output = Vec<Roll>;
+
+    ghost can_run = { λ t. HasFewRecords t.functions.now t.finer.now.table
+        × All (λ roll. AreAmong (set_of_roll roll) t.finer.now.set.items) t.rolls.items };
+
+    ghost can_give = { λ t rolled. (length rolled.items ≡ length t.rolls.items)
+        × AreRolled t.functions.now t.finer.now t.rolls.items rolled.items };
+
+    fn run_alone(self) -> Vec<Roll> {
+        let RollSets {
+            finer,
+            mut rolls,
+            functions,
+        } = self;
+        roll_in_turn(finer, rolls.as_mut_slice(), functions);
+        rolls
+    }
+
+    fn run_among<H: Threads + Sync>(self, rt: &H, hands: usize) -> Vec<Roll> {
+        let RollSets {
+            finer,
+            mut rolls,
+            functions,
+        } = self;
+        roll_among(rt, hands, finer, rolls.as_mut_slice(), functions);
+        rolls
+    }
+}
+
+/// Makes the tables of rolls, one after the other.
+fn roll_in_turn(finer: &SetTable, rolls: &mut [Roll], functions: &[FilteredFunction])
+    requires few { HasFewRecords functions.now finer.now.table }
+    requires among { All (λ roll. AreAmong (set_of_roll roll) finer.now.set.items) rolls.old }
+    ensures rolled { AreRolled functions.now finer.now rolls.old rolls.new }
+{
+    for place in 0..rolls.len() {
+        rolls[place].roll(finer, functions);
+    }
+}
+
+/// Makes the tables of rolls, by as many threads as there are hands.
+fn roll_among<H: Threads + Sync>(
+    rt: &H,
+    hands: usize,
+    finer: &SetTable,
+    rolls: &mut [Roll],
+    functions: &[FilteredFunction],
+)
+    requires hands { 0 < hands }
+    requires few { HasFewRecords functions.now finer.now.table }
+    requires among { All (λ roll. AreAmong (set_of_roll roll) finer.now.set.items) rolls.old }
+    ensures rolled { AreRolled functions.now finer.now rolls.old rolls.new }
+{
+    thread::for_each_mut(
+        rt,
+        rolls,
+        hands,
+        &|_place: usize, roll: &mut Roll|
+            requires { HasFewRecords functions.now finer.now.table
+                × AreAmong roll.now.set.items finer.now.set.items }
+            ensures { HasRolled functions.entry.now finer.entry.now roll.entry.now roll.exit.now }
+        { roll.roll(finer, functions) },
+    );
 }
 
 /// The groups of each grouping set of a list, in the order of the list; those of one set in no order that is said.
@@ -246,8 +322,11 @@ fn roll_sets<E: Executor>(
         → HasProperty property finer.now.set.items functions.now finer.now.table
         → HaveProperty property functions.now tables.items) }
 {
-    let mut rolls = rolls;
-    executor.roll_each(finer, rolls.as_mut_slice(), functions);
+    let rolls = executor.perform(RollSets {
+        finer,
+        rolls,
+        functions,
+    });
     let mut tables = tables_of_rolls(alloc, rolls)?;
     tables.sort_unstable_by_key(|table| usize::MAX - table.table.len());
     Ok(tables)
@@ -306,6 +385,6 @@ fn finish_set<E: Executor>(
         drop(table);
         return Ok(());
     };
-    groups[index] = executor.finish(table)?;
+    groups[index] = table.finish(executor)?;
     Ok(())
 }

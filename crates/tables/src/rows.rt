@@ -1,21 +1,20 @@
 //! The groups of all grouping sets, each beside the index of its set.
 ghost use Rattle.std.specs.Prelude.{◌≡◌, ◌++◌, ℕ, IfOk, OnOk, List, map};
 ghost use Rattle.semantics.specs.Groups.{Row};
-ghost use Rattle.tables_groups.specs.GroupSummaries.{group_summary_in};
-ghost use Rattle.tables_groups.specs.Bags.{SameBag};
-ghost use Rattle.tables_groups.specs.Found.{row_of, rows_from};
-ghost use Rattle.tables_groups.specs.Table.{HasFewRecords};
+ghost use Rattle.group_tables.specs.GroupSummaries.{group_summary_in};
+ghost use Rattle.group_tables.specs.Bags.{SameBag};
+ghost use Rattle.group_tables.specs.Found.{row_of, rows_from};
+ghost use Rattle.group_tables.specs.Table.{HasFewRecords};
 ghost use Rattle.query_resolve.specs.Functions.{indexed_functions};
 ghost use Rattle.tables.specs.Inside.Folding.{IsTableOfKept};
 ghost use Rattle.tables.specs.Planned.{AreFittingUnder};
 ghost use Rattle.tables.specs.Sound.{IsTypedTableUnder};
 ghost use Rattle.semantics.specs.Found.{query_found};
 
-use crate::executor::Executor;
 use crate::rolling::groups_of_sets;
+use group_tables::{Executor, Group, Table};
 use query_plan::Plan;
 use std::alloc::{AllocError, Global};
-use tables_groups::{Group, Table};
 
 /// The groups of each grouping set of a plan, each beside the index of its set, by the table of all grouping columns. The
 /// executor finishes them.

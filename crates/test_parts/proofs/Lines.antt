@@ -3,8 +3,9 @@ use Rattle.std.proofs.Common.{◌≡◌, ◌+◌, ◌<◌, ◌≤◌, ℕ, List,
 use Rattle.std.proofs.Math.ListN.{drop_of_length-le}
 use Rattle.std.proofs.lemmas.List.{drop_more, get_or-map, length-map}
 use Rattle.semantics.specs.Values.{Datum}
-use Rattle.part_groups.specs.declared.fault.GroupFaultKind.TheVariants.{EndsTooEarly, NotAValue}
-use Rattle.part_groups.specs.Reading.{◌>>=◌, Stream, fault_at, first_line, reading_of, value_at, value_or_fault}
+use Rattle.values.specs.Results.{◌>>=◌}
+use Rattle.part_lines.specs.Faults.{ends_too_early, not_a_value}
+use Rattle.part_lines.specs.Reading.{Stream, fault_at, first_line, reading_of, value_at, value_or_fault}
 
 abbrev bytes_of : Bor (List ℕ) → List ℕ
 bytes_of line = line.now
@@ -26,10 +27,10 @@ module _ (lines : List (Bor (List ℕ))) where
       → value_at (stream i) ≡ Ok (d, stream (i + 1))
   good_line i line lt is d finds = at_line i line lt is (Some d) finds
 
-  pub bad_line : (i : ℕ) (line : Bor (List ℕ)) → i < length lines → line ≡ get_or lines i line → reading_of line.now ≡ None → value_at (stream i) ≡ Err (fault_at NotAValue (stream (i + 1)))
+  pub bad_line : (i : ℕ) (line : Bor (List ℕ)) → i < length lines → line ≡ get_or lines i line → reading_of line.now ≡ None → value_at (stream i) ≡ Err (fault_at not_a_value (stream (i + 1)))
   bad_line i line lt is finds = at_line i line lt is None finds
 
-  pub past_lines : (i : ℕ) → length lines ≤ i → value_at (stream i) ≡ Err (record { line = i + 1; kind = EndsTooEarly })
+  pub past_lines : (i : ℕ) → length lines ≤ i → value_at (stream i) ≡ Err (record { line = i + 1; kind = ends_too_early })
   unfolding value_at
   past_lines i le =
       let past = drop_of_length-le (map bytes_of lines) (subst (λ n. n ≤ i) (sym (length-map lines bytes_of)) le) in

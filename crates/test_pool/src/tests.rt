@@ -374,10 +374,8 @@ fn deal_twice<L: Ledger + Send + Sync, R: Threads + Wait + Sync>(
     let Ok((book, shares)) = Book::<L>::new(alloc, blank, 4) else {
         return Err(PoolFault::OutOfMemory);
     };
-    let (first, _, shares) = fan_deal_onto(rt, alloc, &Ones, 0, 100, 100, &book, 200, shares)?;
-    let (second, _, shares) = fan_deal_onto(
-        rt, alloc, &Ones, part, 100, limit, &book, 200, shares,
-    )?;
+    let (first, _, shares) = fan_deal_onto(rt, alloc, &Ones, 0, 100, 100, &book, shares)?;
+    let (second, _, shares) = fan_deal_onto(rt, alloc, &Ones, part, 100, limit, &book, shares)?;
     let right = is_right(&first, 100, 100) && is_right(&second, part + 100, limit);
     let sum = book.close(shares);
     Ok(right && (limit < part + 100 || sum == 200))

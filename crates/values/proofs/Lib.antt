@@ -1,3 +1,4 @@
 mod Examples
 pub mod FitLemmas
 pub mod PartByPart
+mod GroupExamples

@@ -1,3 +1,5 @@
 pub mod Datum
 pub mod Comparison
 pub mod Schema
+pub mod Results
+pub mod GroupStates

@@ -10,7 +10,7 @@ use Rattle.pool.specs.declared.laws.Outcome.TheVariants.{Whole, Over}
 use Rattle.pool.specs.Holding.{Holding}
 use Rattle.pool.specs.Settled.{AreAll, AreRun, HaveEachOnce, pieces_of}
 use Rattle.tables.specs.Pieces.{indexed_pieces, IsCutInto}
-use Rattle.jlreport_cli.specs.declared.options.Options.{Options}
+use Rattle.semantics.specs.declared.options.Options.{Options}
 use Rattle.jlreport_scan.specs.declared.rounds.Ahead.{Ahead}
 use Rattle.jlreport_scan.specs.Gathered.{IsWhole, limit_number}
 use Rattle.query_plan.specs.Planned.{PlannedQuery}

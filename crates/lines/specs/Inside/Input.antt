@@ -3,7 +3,7 @@ use Rattle.std.specs.Prelude.{◌≡◌, ℕ, ◌+◌, ◌-◌, ◌^◌, ◌<◌
 use Rattle.std.specs.Io.KnownBytes.{Consumes, IsAtEnd, Keeps}
 use Rattle.lines.specs.declared.fault.ReadFault.{ReadFault}
 use Rattle.lines.specs.declared.input.Input.{Input}
-use Rattle.lines.specs.declared.source.Source.{Source}
+use Rattle.lines.specs.declared.source.ReaderAccount.{ReaderAccount}
 use Rattle.lines.specs.Clip.{clipped_len}
 use Rattle.lines.specs.Holding.{IsHeld, left_behind, whole_lines}
 use Rattle.lines.specs.Inside.Holding.{left_of}
@@ -12,7 +12,7 @@ use Rattle.lines.specs.Rounds.{HasCause, HasRead}
 -- ---- a read of the source
 
 -- a read gave `count` bytes, which stand in the buffer from place `at` on and are counted; it gives none only at the end; and in all the reader gave fewer than 2^63
-pub record HasGot {R : Type 0} (remaining : R → Option (List ℕ)) (old : Source R) (count : ℕ) (new : Source R) (buffer : List ℕ) (at : ℕ) : Type 0 where
+pub record HasGot {R : Type 0} (remaining : R → Option (List ℕ)) (old : ReaderAccount R) (count : ℕ) (new : ReaderAccount R) (buffer : List ℕ) (at : ℕ) : Type 0 where
   pub fits : at + count ≤ length buffer
   pub bytes : Consumes (remaining old.reader) (remaining new.reader) (take count (drop at buffer))
   pub end : count ≡ 0 → IsAtEnd (remaining new.reader)

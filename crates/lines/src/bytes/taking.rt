@@ -2,6 +2,7 @@
 ghost use Rattle.std.specs.Prelude.{◌≡◌, ◌<◌, ◌≤◌, IfSome, get_or, length};
 ghost use Rattle.semantics.specs.declared.kind.Kind.{Kind};
 ghost use Rattle.lines.specs.Inside.Members.{IsTakenAt};
+ghost use Rattle.lines_json.specs.Bytes.{byte_or_space, quotation_mark};
 
 use crate::spare::Spare;
 use lines_json::{bool_at, byte_at, null_end, plain_string_end, push_content, whole_number_at};
@@ -81,7 +82,7 @@ fn text_at(text: &str, at: usize, spare: &mut Spare) -> Option<(Value, usize)>
 #[inline(never)]
 fn escaped_text_at(text: &str, at: usize, spare: &mut Spare) -> Option<(Value, usize)>
     requires within { at < length text.now }
-    requires opens { get_or text.now at 32 ≡ 34 }
+    requires opens { byte_or_space text.now at ≡ quotation_mark }
     ensures { IfSome result (λ r. IsTakenAt text.now Kind.Text at r.1 r.0) }
 {
     let mut content = spare.copy("")?;

@@ -6,6 +6,7 @@ ghost use Rattle.values.specs.Schema.{IsSchema, fields_of};
 ghost use Rattle.lines_json.specs.Meant.{AreMembers, IsValue};
 ghost use Rattle.lines.specs.Inside.Members.{AreTaken};
 ghost use Rattle.semantics.specs.Records.{datum_taken};
+ghost use Rattle.lines.specs.declared.columns.TheConstants.{MEMBER_DEPTH};
 
 use crate::columns::{MEMBER_DEPTH, missing_values, place_found_from, put_at};
 use crate::spare::Spare;
@@ -22,7 +23,7 @@ pub(crate) fn take_members(
 ) -> Option<Vec<Value>>
     requires { IsSchema (fields_of columns.now) }
     ensures taken { IfSome result (λ v. (found : Members)
-        × AreMembers 126 reader.old found reader.new
+        × AreMembers MEMBER_DEPTH reader.old found reader.new
         × AreTaken columns.now v.items found) }
 {
     let mut values = missing_values(columns, spare)?;
@@ -44,7 +45,7 @@ pub(crate) fn take_members(
 /// Takes the value of a member as a column of this type takes it; `None` says nothing of the member.
 fn take_value(kind: Kind, reader: &mut Reader<'_>, spare: &mut Spare) -> Option<Value>
     ensures taken { IfSome result (λ v. (d : Data)
-        × IsValue 126 reader.old d reader.new
+        × IsValue MEMBER_DEPTH reader.old d reader.new
         × (datum_taken kind d ≡ Some (datum_of v))) }
     ensures shorter { IfSome result (λ v. length reader.new < length reader.old) }
 {

@@ -4,6 +4,9 @@ ghost use Rattle.std.specs.Str.Parse.{AllDigits, digits_value};
 ghost use Rattle.lines_json.specs.Inside.Contents.{is_word_end};
 ghost use Rattle.lines_json.specs.Inside.NumberParts.{AreDigitsAt};
 ghost use Rattle.lines_json.specs.Standing.{IsWholeNumberAt};
+ghost use Rattle.lines_json.specs.Bytes.{byte_or_space};
+ghost use Rattle.lines_json.specs.Inside.Signs.{digit_zero};
+ghost use Rattle.lines_json.specs.declared.numbers.short.TheConstants.{MOST_DIGITS};
 
 use crate::bytes::{byte_at, ends_word};
 
@@ -43,15 +46,18 @@ fn digits_at(text: &[u8], from: usize) -> Option<(u64, usize)>
     }
 }
 
+/// The most digits that are read at once: any number of so many has fewer than 64 bits.
+const MOST_DIGITS: usize = 18;
+
 /// The number that the first digits of a text are, and how many they are: 18 at most.
 #[inline(always)]
 fn leading_digits(text: &[u8]) -> (u64, usize)
     ensures within { result.1 ≤ length text.now }
-    ensures short { result.1 ≤ 18 }
+    ensures short { result.1 ≤ MOST_DIGITS }
     ensures digits { AllDigits 10 (take result.1 text.now) }
     ensures value { result.0 ≡ digits_value 10 (take result.1 text.now) }
 {
-    let most = text.len().min(18);
+    let most = text.len().min(MOST_DIGITS);
     let mut size = 0;
     let mut count = 0;
     while count < most && text[count].is_ascii_digit() {
@@ -66,8 +72,8 @@ fn leading_digits(text: &[u8]) -> (u64, usize)
 fn is_whole(text: &[u8], count: usize) -> bool
     requires { count ≤ length text.now }
     ensures some { IsTrue result → 0 < count }
-    ensures first { IsTrue result → get_or text.now 0 32 ≡ 48 → count ≡ 1 }
-    ensures ends { IsTrue result → is_word_end (get_or text.now count 32) ≡ true }
+    ensures first { IsTrue result → byte_or_space text.now 0 ≡ digit_zero → count ≡ 1 }
+    ensures ends { IsTrue result → is_word_end (byte_or_space text.now count) ≡ true }
 {
     count > 0 && (count == 1 || text[0] != b'0') && ends_word(byte_at(text, count))
 }

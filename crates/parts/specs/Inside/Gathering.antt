@@ -1,8 +1,8 @@
 -- The groups of a part, put to a partial result as they come.
 use Rattle.std.specs.Prelude.{◌≡◌, ◌+◌, ◌≤◌, ⊤, ℕ, List, ◌∷◌, ◌++◌, Option, Some, None, []}
-use Rattle.group_states.specs.States.{entry_of}
+use Rattle.values.specs.GroupStates.{entry_of}
 use Rattle.semantics.specs.GroupStates.{EntryForm}
-use Rattle.group_states.specs.declared.entry.GroupEntry.{GroupEntry}
+use Rattle.values.specs.declared.group_entry.GroupEntry.{GroupEntry}
 use Rattle.query_plan.specs.Planned.{PlannedQuery}
 use Rattle.query_resolve.specs.Functions.{indexed_functions}
 use Rattle.semantics.specs.Groups.{Key}
@@ -12,7 +12,7 @@ use Rattle.semantics.specs.Parts.{ContentsForm}
 use Rattle.tables.specs.Notes.{Noted}
 use Rattle.tables.specs.Sound.{IsSoundUnder}
 use Rattle.tables.specs.States.{PartialState}
-use Rattle.tables_groups.specs.Entries.{IsBehind, IsEntryFor}
+use Rattle.group_tables.specs.Entries.{IsBehind, IsEntryFor}
 use Rattle.parts.specs.declared.gathering.Gathering.{Gathering}
 
 -- the key of a group

@@ -1,6 +1,6 @@
 -- What the result of all parts is.
 use Rattle.std.specs.Prelude.{◌≡◌, ◌≤◌, ◌++◌, ⊤, ℕ, List, length, Result, Ok, Err}
-use Rattle.part_groups.specs.Reading.{Stream}
+use Rattle.part_lines.specs.Reading.{Stream}
 use Rattle.query_plan.specs.Planned.{PlannedQuery}
 use Rattle.semantics.specs.Columns.{Field}
 use Rattle.semantics.specs.Lines.{lines}

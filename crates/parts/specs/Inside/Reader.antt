@@ -1,17 +1,16 @@
 -- How far a reader of parts has come.
 use Rattle.std.specs.Io.KnownBytes.{IsAtEnd, prepend_known}
-use Rattle.std.specs.Prelude.{◌≡◌, ◌⊎◌, ◌+◌, ◌-◌, ◌^◌, ◌<◌, ◌≤◌, ℕ, true, false, List, ◌∷◌, ◌++◌, drop, length, Option, IsSome, IfSome, Result, Ok, Err, unwrap_or, []}
+use Rattle.std.specs.Prelude.{◌≡◌, ◌⊎◌, ◌+◌, ◌-◌, ◌^◌, ◌<◌, ◌≤◌, ℕ, true, false, List, ◌∷◌, ◌++◌, drop, length, Option, Some, None, IsSome, IfSome, Result, Ok, Err, unwrap_or, []}
 use Rattle.lines.specs.Pieces.{AreWholeLines}
 use Rattle.lines.specs.Rounds.{RoundsState}
-use Rattle.part_groups.specs.Reading.{Stream, reading_of}
-use Rattle.part_groups.specs.declared.fault.GroupFaultKind.TheVariants as group_kind
-use Rattle.part_groups.specs.declared.fault.GroupRefusal.{GroupRefusal}
-use Rattle.part_groups.specs.declared.fault.GroupRefusal.TheVariants as refusal
-use Rattle.part_text.specs.Reading.{Tells}
-use Rattle.part_text.specs.declared.fault.ValueFault.{ValueFault}
-use Rattle.part_text.specs.declared.fault.ValueFault.TheVariants as value_fault
+use Rattle.part_lines.specs.Reading.{Stream, reading_of}
+use Rattle.part_lines.specs.declared.fault.PartRefusal.{PartRefusal}
+use Rattle.part_lines.specs.declared.fault.PartRefusal.TheVariants as refusal
+use Rattle.part_lines.specs.LineValues.{Tells}
 use Rattle.values.specs.declared.value.Value.{Value}
 use Rattle.semantics.specs.Lines.{lines}
+use Rattle.semantics.specs.declared.parts_fault.PartsFaultKind.TheVariants.{NotAValue}
+use Rattle.std.specs.declared.alloc.AllocError.{AllocError}
 
 -- The bytes that are to come, where they are known, and how many lines were read.
 pub record ReaderState : Type 0 where
@@ -55,14 +54,14 @@ pub record IsLineAt (round : List ℕ) (place end : ℕ) (line : List ℕ) : Typ
   pub is_first : (rest : List ℕ) → AreWholeLines (drop place round) ⊎ (rest ≡ []) → lines (drop place round ++ rest) ≡ line ∷ lines (drop (end + 1) round ++ rest)
 
 -- The line at a place of a round was read, and the lines behind it begin at another place, where it is known what is to
--- come; a call told of it which value it has.
-pub record HasTaken {R : Type 0} (rounds : RoundsState R) (place : ℕ) (result : Result Value ValueFault) (next : ℕ) : Type 0 where
+-- come; a call told of it which value it has, or that it has none.
+pub record HasTaken {R : Type 0} (rounds : RoundsState R) (place : ℕ) (result : Result (Option Value) AllocError) (next : ℕ) : Type 0 where
   pub line : List ℕ
   pub stands : IfSome (left_at rounds place) (λ bytes. IfSome (left_at rounds next) (λ rest. lines bytes ≡ line ∷ lines rest))
   pub tells : Tells result (reading_of line)
 
--- the value of the line of this number, or what is wrong with it
-abbrev pub refused_at : ℕ → Result Value ValueFault → Result Value GroupRefusal
-refused_at line (Ok value) = Ok value
-refused_at line (Err value_fault.NotAValue) = Err (refusal.Fault (record { line = line; kind = group_kind.NotAValue }))
-refused_at line (Err value_fault.OutOfMemory) = Err refusal.OutOfMemory
+-- the value of the line of this number, or the fault that it has none
+abbrev pub refused_at : ℕ → Result (Option Value) AllocError → Result Value PartRefusal
+refused_at line (Ok (Some value)) = Ok value
+refused_at line (Ok None) = Err (refusal.Fault (record { line = line; kind = NotAValue }))
+refused_at line (Err refused) = Err refusal.OutOfMemory

@@ -6,8 +6,9 @@ use Rattle.query_parser.specs.Inside.Stops.{Stop}
 use Rattle.semantics.specs.declared.token.Word.TheVariants as w
 use Rattle.query_lexer.specs.Options.{choose}
 use Rattle.semantics.specs.Syntax.{ExpressionForm, OperandForm, PredicateForm, truth_test, compare, between, member, null_test, column}
+use Rattle.values.specs.Results.{◌>>=◌}
 use Rattle.query_parser.specs.Inside.Fronts.{is_word, after}
-use Rattle.query_parser.specs.Inside.Steps.{◌>>=◌, Reader, unexpected_at, found_or_unexpected}
+use Rattle.query_parser.specs.Inside.Steps.{Reader, unexpected_at, found_or_unexpected}
 use Rattle.query_parser.specs.Inside.LeafSteps.{literal_at, literals_at, op_at, truth_at, mark_at}
 use Rattle.query_parser.specs.Inside.ExpressionSteps.{Inside, expression_at}
 

@@ -8,8 +8,9 @@ use Rattle.semantics.specs.declared.token.Sign.TheVariants as s
 use Rattle.query_lexer.specs.Options.{choose}
 use Rattle.semantics.specs.Syntax.{ExpressionForm, FunctionForm, PredicateForm, over_all, over_filtered}
 use Rattle.semantics.specs.Leaves.{Limits}
+use Rattle.values.specs.Results.{◌>>=◌}
 use Rattle.query_parser.specs.Inside.Fronts.{is_word, is_sign, after}
-use Rattle.query_parser.specs.Inside.Steps.{◌>>=◌, Reader, over, found_or_unexpected, name_at}
+use Rattle.query_parser.specs.Inside.Steps.{Reader, over, found_or_unexpected, name_at}
 use Rattle.query_parser.specs.Inside.LeafSteps.{aggregate_at, arguments_at}
 
 -- What may stand in brackets: within which limits, whether a level of them is left, and what reads the predicate there.

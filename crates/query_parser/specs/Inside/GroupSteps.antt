@@ -7,9 +7,10 @@ use Rattle.semantics.specs.declared.token.Word.TheVariants as w
 use Rattle.semantics.specs.declared.token.Sign.TheVariants as s
 use Rattle.query_lexer.specs.Options.{choose}
 use Rattle.semantics.specs.Syntax.{ElementForm, set, rollup, cube, sets, element_forms}
+use Rattle.values.specs.Results.{◌>>=◌}
 use Rattle.query_parser.specs.Inside.PredicateSteps.{any_front}
 use Rattle.query_parser.specs.Inside.Fronts.{is_word, is_sign, after}
-use Rattle.query_parser.specs.Inside.Steps.{◌>>=◌, Reader, over, found_or_unexpected, with_front, more, name_at, begins_name}
+use Rattle.query_parser.specs.Inside.Steps.{Reader, over, found_or_unexpected, with_front, more, name_at, begins_name}
 
 -- A part and those behind it, each behind its comma.
 abbrev pub all_at : {A : Type 0} → (List Token → Bool) → Reader A → Reader (List A)

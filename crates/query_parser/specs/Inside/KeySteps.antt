@@ -6,8 +6,9 @@ use Rattle.semantics.specs.declared.token.Word.TheVariants as w
 use Rattle.query_lexer.specs.Options.{choose}
 use Rattle.semantics.specs.Syntax.{KeyForm}
 use Rattle.semantics.specs.Leaves.{Limits}
+use Rattle.values.specs.Results.{◌>>=◌}
 use Rattle.query_parser.specs.Inside.Fronts.{is_word, after}
-use Rattle.query_parser.specs.Inside.Steps.{◌>>=◌, Reader, found_or_unexpected}
+use Rattle.query_parser.specs.Inside.Steps.{Reader, found_or_unexpected}
 use Rattle.query_parser.specs.Inside.ExpressionSteps.{expression_at, begins_expression}
 use Rattle.query_parser.specs.Inside.PredicateSteps.{inside_of}
 use Rattle.query_parser.specs.Inside.GroupSteps.{all_at}

@@ -9,7 +9,8 @@ use Rattle.semantics.specs.Syntax.{PredicateForm, not_of}
 use Rattle.query_parser.specs.Inside.Fronts.{is_word, is_sign, after}
 use Rattle.semantics.specs.Leaves.{Limits}
 use Rattle.semantics.specs.Productions.{conjunction_of, disjunction_of}
-use Rattle.query_parser.specs.Inside.Steps.{◌>>=◌, Reader, over, found_or_unexpected, more}
+use Rattle.values.specs.Results.{◌>>=◌}
+use Rattle.query_parser.specs.Inside.Steps.{Reader, over, found_or_unexpected, more}
 use Rattle.query_parser.specs.Inside.AtomSteps.{test_after, tested_atom_at}
 use Rattle.query_parser.specs.Inside.ExpressionSteps.{Inside}
 

@@ -8,8 +8,9 @@ use Rattle.semantics.specs.declared.token.Word.TheVariants as w
 use Rattle.query_lexer.specs.Options.{choose}
 use Rattle.semantics.specs.Syntax.{PredicateForm, ElementForm, ItemForm, KeyForm, TreeForm}
 use Rattle.semantics.specs.Leaves.{Limits}
+use Rattle.values.specs.Results.{◌>>=◌}
 use Rattle.query_parser.specs.Inside.Fronts.{is_word, after}
-use Rattle.query_parser.specs.Inside.Steps.{◌>>=◌, Reader, unexpected_at, found_or_unexpected, listed_at, name_at}
+use Rattle.query_parser.specs.Inside.Steps.{Reader, unexpected_at, found_or_unexpected, listed_at, name_at}
 use Rattle.query_parser.specs.Inside.Stops.{Stop}
 use Rattle.query_parser.specs.Inside.ExpressionSteps.{expression_at, begins_expression}
 use Rattle.query_parser.specs.Inside.PredicateSteps.{predicate_at, inside_of, any_front}

@@ -8,6 +8,7 @@ use Rattle.query_parser.specs.Inside.Stops as halts
 use Rattle.semantics.specs.declared.token.Token.{Token}
 use Rattle.semantics.specs.declared.token.Token.TheVariants as tokens
 use Rattle.semantics.specs.declared.token.Sign.TheVariants as s
+use Rattle.values.specs.Results.{◌>>=◌}
 use Rattle.query_parser.specs.Inside.Fronts.{is_sign, after}
 use Rattle.query_lexer.specs.Options.{choose}
 
@@ -25,12 +26,6 @@ Gives view (Err e) read = Fails e read
 -- What reads a value from the tokens in front.
 abbrev pub Reader : Type 0 → Type 0
 Reader A = List Token → Result (A × List Token) Stop
-
-infixl 10 ◌>>=◌
--- One step that may fail, and then another.
-abbrev pub ◌>>=◌ : {A B : Type 0} → Result A Stop → (A → Result B Stop) → Result B Stop
-(Ok x) >>= f = f x
-(Err e) >>= f = Err e
 
 -- The first of these tokens, or the end, is not expected.
 abbrev pub unexpected_at : {A : Type 0} → List Token → Result A Stop

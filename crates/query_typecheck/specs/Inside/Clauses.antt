@@ -13,13 +13,14 @@ use Rattle.semantics.specs.Sets.{expansion}
 use Rattle.semantics.specs.SetFunctions.{functions_of}
 use Rattle.semantics.specs.Types.{key_expression}
 use Rattle.query_typecheck.specs.FirstFaults.{clause_fault, column_fault, expression_fault, first_fault, headers_fault, limit_fault}
+use Rattle.semantics.specs.Limits.{most_grouping_sets, most_set_functions}
 
 -- WHERE, then the names in GROUP BY, then the number of its expanded sets.
 unfoldable pub records_fault : List Field → List ℕ → Option PredicateForm → List ElementForm → Option QueryFault
 records_fault fields grouped where_condition groups =
     option_or (clause_fault fields grouped clause.Where where_condition)
     (option_or (first_fault (column_fault fields) (flat_map group_names groups))
-    (limit_fault 256 (length (expansion groups))))
+    (limit_fault most_grouping_sets (length (expansion groups))))
 
 -- The items of SELECT, then their headers.
 unfoldable pub select_fault : List Field → List ℕ → List ItemForm → Option QueryFault
@@ -43,4 +44,4 @@ unfoldable pub clauses_fault : List Field → List ℕ → TreeForm → Option Q
 clauses_fault fields grouped t =
     option_or (records_fault fields grouped t.where_condition t.groups)
     (option_or (rows_fault fields grouped t.items t.having_condition t.keys)
-    (limit_fault 64 (length (functions_of fields t))))
+    (limit_fault most_set_functions (length (functions_of fields t))))

@@ -2,7 +2,7 @@
 use Rattle.std.specs.Prelude.{◌∷◌, []}
 use Rattle.query_plan.specs.Planned.{PlannedQuery}
 use Rattle.semantics.specs.Found.{Found}
-use Rattle.tables_groups.specs.Fitting.{AreFitting}
+use Rattle.group_tables.specs.Fitting.{AreFitting}
 
 -- the row of a group fits the query
 abbrev pub FitsUnder : PlannedQuery → Found → Type 0

@@ -21,32 +21,32 @@ use Rattle.query_ast.specs.Syntax.{key_form}
 use Rattle.values.specs.Datum.{data_of, datum_of}
 use Rattle.sort_keys.specs.Codes.{IsCodable, index_code, key_code, values_code}
 use Rattle.sort_keys.specs.SortKeys.{SortParts, key_parts, parts_of, parts_order}
-use Rattle.tables_groups.specs.declared.group.Group.{Group}
-use Rattle.tables_groups.specs.Cells.{summary_of}
-use Rattle.tables_groups.specs.Found.{row_of}
+use Rattle.group_tables.specs.declared.group.Group.{Group}
+use Rattle.group_tables.specs.Cells.{summary_of}
+use Rattle.group_tables.specs.Found.{row_of}
 use Rattle.report_rows.specs.declared.coded_key.CodedKey.{CodedKey}
 use Rattle.report_rows.specs.declared.sort_entry.SortEntry.{SortEntry}
 use Rattle.semantics.specs.Order.{before, grouping_values, under_key, under_keys}
-use Rattle.report_rows.specs.declared.source.Source.{Source}
-use Rattle.report_rows.specs.declared.source.Source.TheVariants.{KeyAt, CellAt, Always}
+use Rattle.report_rows.specs.declared.source.ValueSource.{ValueSource}
+use Rattle.report_rows.specs.declared.source.ValueSource.TheVariants.{KeyAt, CellAt, Always}
 use Rattle.report_rows.specs.Sources.{shown_at}
 use Rattle.report_rows.specs.Parts.{AreOfParts}
 
 -- ---- values
 
 -- the value that the row of a group has at a source; an average is no single value, and is NULL
-abbrev pub value_at_source : Group → Source → Datum
+abbrev pub value_at_source : Group → ValueSource → Datum
 value_at_source group source = cell_value (shown_at (data_of group.key.items) (map summary_of group.cells.items) source)
 
 -- the same, apart from where the group lies in memory
-abbrev pub value_there : Found → Source → Datum
+abbrev pub value_there : Found → ValueSource → Datum
 value_there row source = cell_value (shown_at row.1.key row.1.cells source)
 
 -- ---- keys beside where rows have their values
 
 -- a key of ORDER BY, and where the rows of each grouping set have its value, apart from where they lie in memory
 abbrev pub CodedForm : Type 0
-CodedForm = KeyForm × List Source
+CodedForm = KeyForm × List ValueSource
 
 abbrev pub coded_form : CodedKey → CodedForm
 coded_form coded = (key_form coded.key.now, coded.sources.items)
@@ -87,38 +87,38 @@ pub record IsCodableRow (cs : List CodedForm) (row : Found) : Type 0 where
 -- ---- keys that have the values of an earlier one
 
 -- what is there is the value at this place of a group's key
-abbrev pub is_key_at : ℕ → Source → Bool
+abbrev pub is_key_at : ℕ → ValueSource → Bool
 is_key_at place (KeyAt at) = at == place
 is_key_at place (CellAt at) = false
 is_key_at place (Always value) = false
 
 -- what is there is the cell at this place
-abbrev pub is_cell_at : ℕ → Source → Bool
+abbrev pub is_cell_at : ℕ → ValueSource → Bool
 is_cell_at place (KeyAt at) = false
 is_cell_at place (CellAt at) = at == place
 is_cell_at place (Always value) = false
 
 -- what is there is this value for all rows
-abbrev pub is_always : Datum → Source → Bool
+abbrev pub is_always : Datum → ValueSource → Bool
 is_always d (KeyAt at) = false
 is_always d (CellAt at) = false
 is_always d (Always value) = same_value d (datum_of value)
 
 -- two sources are the same
-abbrev pub is_same_source : Source → Source → Bool
+abbrev pub is_same_source : ValueSource → ValueSource → Bool
 is_same_source (KeyAt place) other = is_key_at place other
 is_same_source (CellAt place) other = is_cell_at place other
 is_same_source (Always value) other = is_always (datum_of value) other
 
 -- and so are these, one by one
-abbrev pub are_same_sources : List Source → List Source → Bool
+abbrev pub are_same_sources : List ValueSource → List ValueSource → Bool
 are_same_sources [] [] = true
 are_same_sources [] (b ∷ others) = false
 are_same_sources (a ∷ more) [] = false
 are_same_sources (a ∷ more) (b ∷ others) = is_same_source a b && are_same_sources more others
 
 -- rows have their values for one of the keys at these sources
-abbrev pub is_repeated : List CodedForm → List Source → Bool
+abbrev pub is_repeated : List CodedForm → List ValueSource → Bool
 is_repeated [] sources = false
 is_repeated (c ∷ cs) sources = are_same_sources c.1 sources || is_repeated cs sources
 
@@ -133,7 +133,7 @@ AreTelling cs ks fields t = (x y : Found) → x.0 < length (sets_of fields t) �
 -- ---- keys that say what the group's key says
 
 -- the first of the sources is the value at this place of a group's key
-abbrev pub is_first_at : ℕ → List Source → Bool
+abbrev pub is_first_at : ℕ → List ValueSource → Bool
 is_first_at place sources = option_map_or (is_key_at place) (slice_get sources 0) false
 
 -- a key is default, ascending with NULL last, and the rows of the first grouping set have its value at this place of a group's key

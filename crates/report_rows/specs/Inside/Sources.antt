@@ -7,17 +7,17 @@ use Rattle.query_ast.specs.Syntax.{expression_form}
 use Rattle.query_plan.specs.Planned.{PlannedQuery}
 use Rattle.semantics.specs.Aggregates.{Summary}
 use Rattle.semantics.specs.Groups.{Key}
-use Rattle.report_rows.specs.declared.source.Source.{Source}
-use Rattle.report_rows.specs.declared.source.Source.TheVariants.{KeyAt, CellAt, Always}
+use Rattle.report_rows.specs.declared.source.ValueSource.{ValueSource}
+use Rattle.report_rows.specs.declared.source.ValueSource.TheVariants.{KeyAt, CellAt, Always}
 use Rattle.semantics.specs.Rows.{expression_shown}
 use Rattle.report_rows.specs.Sources.{shown_at}
 
 -- each row of the grouping set has there what it shows for the expression
-abbrev pub IsSourceOf : PlannedQuery → List ℕ → ExpressionForm → Source → Type 0
+abbrev pub IsSourceOf : PlannedQuery → List ℕ → ExpressionForm → ValueSource → Type 0
 IsSourceOf plan set e source = (key : Key) (cells : List Summary) → shown_at key cells source ≡ expression_shown plan.fields plan.query set key cells e
 
 -- a place is one of the values of a key of so many columns, or one of so many cells
-abbrev pub IsWithin : ℕ → ℕ → Source → Type 0
+abbrev pub IsWithin : ℕ → ℕ → ValueSource → Type 0
 IsWithin columns functions (KeyAt place) = place < columns
 IsWithin columns functions (CellAt place) = place < functions
 IsWithin columns functions (Always value) = ⊤
@@ -29,11 +29,11 @@ abbrev pub expression_forms : List (Bor Expression) → List ExpressionForm
 expression_forms expressions = map (λ e. expression_form e.now) expressions
 
 -- each row of the grouping set has there what it shows for these expressions
-abbrev pub AreSourcesFor : PlannedQuery → List ExpressionForm → List ℕ → List Source → Type 0
+abbrev pub AreSourcesFor : PlannedQuery → List ExpressionForm → List ℕ → List ValueSource → Type 0
 AreSourcesFor plan es set sources = (key : Key) (cells : List Summary) → map (shown_at key cells) sources ≡ map (expression_shown plan.fields plan.query set key cells) es
 
 -- ---- places for one expression
 
 -- the rows of each of these grouping sets have there, at one place for each set, what they show for the expression
-abbrev pub AreSourcesBySet : PlannedQuery → ExpressionForm → List (List ℕ) → List Source → Type 0
+abbrev pub AreSourcesBySet : PlannedQuery → ExpressionForm → List (List ℕ) → List ValueSource → Type 0
 AreSourcesBySet plan e sets sources = (key : Key) (cells : List Summary) → map (shown_at key cells) sources ≡ map (λ set. expression_shown plan.fields plan.query set key cells e) sets

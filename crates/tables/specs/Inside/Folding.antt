@@ -4,7 +4,7 @@ use Rattle.semantics.specs.Sets.{grouping_places}
 use Rattle.query_resolve.specs.Functions.{indexed_functions}
 use Rattle.semantics.specs.Conditions.{kept_records}
 use Rattle.semantics.specs.Groups.{Row}
-use Rattle.tables_groups.specs.Table.{Contents, IsTableOf, TakesOne}
+use Rattle.group_tables.specs.Table.{Contents, IsTableOf, TakesOne}
 use Rattle.query_plan.specs.Planned.{PlannedQuery}
 use Rattle.semantics.specs.Found.{aggregate_functions}
 use Rattle.tables.specs.declared.folding.Folding.{Folding}

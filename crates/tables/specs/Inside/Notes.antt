@@ -3,7 +3,7 @@ use Rattle.std.specs.Prelude.{◌≡◌, ℕ, ◌+◌, List, ◌++◌, map}
 use Rattle.std.specs.List.Sorted.{IsNonDecreasingBy}
 use Rattle.semantics.specs.declared.line_fault.LineFault.{LineFault}
 use Rattle.semantics.specs.Lines.{lines}
-use Rattle.tables_groups.specs.Bags.{SameBag}
+use Rattle.group_tables.specs.Bags.{SameBag}
 use Rattle.tables.specs.Notes.{Noted, refused_lines_from}
 
 -- the lines are the refused lines of the notes, numbered in an order of these in which their indexes do not fall

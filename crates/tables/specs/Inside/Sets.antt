@@ -1,9 +1,9 @@
 -- The groups of a grouping set.
 use Rattle.std.specs.Prelude.{ℕ, List, map}
-use Rattle.tables_groups.specs.declared.group.Group.{Group}
+use Rattle.group_tables.specs.declared.group.Group.{Group}
 use Rattle.semantics.specs.Aggregates.{AggregateFunction}
-use Rattle.tables_groups.specs.GroupSummaries.{group_summary_in, group_summaries}
-use Rattle.tables_groups.specs.Bags.{SameBag}
+use Rattle.group_tables.specs.GroupSummaries.{group_summary_in, group_summaries}
+use Rattle.group_tables.specs.Bags.{SameBag}
 use Rattle.semantics.specs.Groups.{Row}
 
 -- the groups are those of a grouping set over the records: one for each key, and no other

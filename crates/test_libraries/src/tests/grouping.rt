@@ -1,16 +1,16 @@
 //! Records are grouped in two parts, and the parts are put together; groups are rolled up. Two set functions have a FILTER.
 ghost use Rattle.std.specs.Prelude.{◌≡◌, ◌<◌, ◌^◌, ◌∷◌, [], IfOk, length, List, map};
 ghost use Rattle.values.specs.Datum.{data_of, datum_of};
-ghost use Rattle.tables_groups.specs.Functions.{aggregate_of};
+ghost use Rattle.group_tables.specs.Functions.{aggregate_of};
 ghost use Rattle.semantics.specs.Groups.{Row, value_at};
-ghost use Rattle.tables_groups.specs.Rows.{IsNarrow, IsNarrowRow};
+ghost use Rattle.group_tables.specs.Rows.{IsNarrow, IsNarrowRow};
 ghost use Rattle.semantics.specs.Aggregates.{is_present};
-ghost use Rattle.tables_groups.specs.Table.{HasFewRecords, IsTableOf};
+ghost use Rattle.group_tables.specs.Table.{HasFewRecords, IsTableOf};
 
+use group_tables::{Cell, Group, HashSeed, Serial, Table};
 use query_resolve::{ColumnFunction, FilteredFunction};
 use std::alloc::{AllocError, Global};
 use std::test::Fail;
-use tables_groups::{Cell, Group, HashSeed, Table};
 use values::Value;
 
 /// A value of a record that is written by hand.
@@ -63,7 +63,7 @@ fn table_of(
         (map (aggregate_of ((λ row. is_present (value_at 1 row)) ∷ [])) functions.now) table rows
         × (length rows < 2 ^ 62))) }
 {
-    let mut table = Table::new(alloc, HashSeed::Fixed, set, functions)?;
+    let mut table = Table::new(alloc, HashSeed::Fixed, 1, set, functions)?;
     for fields in records {
         let row = row_of(alloc, fields)?;
         let values = row.as_slice();
@@ -86,8 +86,8 @@ fn joined_groups(
 {
     let mut table = table_of(alloc, set, functions, left)?;
     let other = table_of(alloc, set, functions, right)?;
-    table.absorb(other)?;
-    table.finish()
+    table.absorb(&Serial, other)?;
+    table.finish(&Serial)
 }
 
 fn number(number: i128) -> Cell {
@@ -172,13 +172,13 @@ fn rolled_groups(alloc: Global) -> Result<Vec<Group>, AllocError> {
     ];
     let finest = table_of_few(alloc, &[0, 2], &FUNCTIONS, &records)?;
     let finer = finest.roll(&[0, 2], &[2, 0], &FUNCTIONS)?;
-    finer.roll(&[2, 0], &[0], &FUNCTIONS)?.finish()
+    finer.roll(&[2, 0], &[0], &FUNCTIONS)?.finish(&Serial)
 }
 
 /// The groups of no records under the empty set, by way of those by a column.
 fn rolled_of_none(alloc: Global) -> Result<Vec<Group>, AllocError> {
     let none = table_of_few(alloc, &[0], &FUNCTIONS, &[])?;
-    none.roll(&[0], &[], &FUNCTIONS)?.finish()
+    none.roll(&[0], &[], &FUNCTIONS)?.finish(&Serial)
 }
 
 /// Whether there is the one group of no records.

@@ -4,15 +4,13 @@ ghost use Rattle.tables.specs.Partials.{IsPartialOf};
 ghost use Rattle.tables.specs.Planned.{IsFinishOf};
 
 use query::{Plan, check, parse};
-use report::{
-    arrange, arranged_law, order_law, refused_text, report_among, report_on, report_text,
-};
+use report::{arrange, arranged_law, order_law, refused_text, report_on, report_text};
 use std::alloc::{AllocError, Global};
 use std::marker::Sync;
 use std::process::Abort;
 use std::test::Fail;
 use std::thread::Threads;
-use tables::{Groups, Partial, sound_law};
+use tables::{Groups, HashSeed, Parallel, Partial, Serial, sound_law};
 use values::Schema;
 
 /// The plan of a query that takes an average of each group, where memory is granted.
@@ -45,7 +43,7 @@ const LIST: &[u8] = b"line 2: not JSON\nline 4: not an object\nline 5: bad value
 
 /// What is written of the lines.
 #[derive(Drop)]
-struct Texts {
+struct Outputs {
     report: Vec<u8>,
     /// The report once more, by three hands.
     report_by_hands: Vec<u8>,
@@ -72,16 +70,25 @@ fn finish(plan: &Plan, partial: Partial) -> Result<Groups, AllocError>
 }
 
 /// What is written of the lines: the report, and the list.
-fn write_texts<H: Threads + Sync>(rt: &H, alloc: Global, plan: &Plan) -> Result<Texts, AllocError> {
+fn write_texts<H: Threads + Sync>(
+    rt: &H,
+    alloc: Global,
+    plan: &Plan,
+) -> Result<Outputs, AllocError> {
     let partial = result_of(alloc, plan, LINES)?;
     let groups = finish(plan, partial)?;
-    let report = report_on(alloc, &groups, plan)?;
-    let report_by_hands = report_among(rt, alloc, &groups, plan, 3)?;
+    let report = report_on(&Serial, alloc, &groups, plan)?;
+    let hands = Parallel {
+        rt,
+        workers: 3,
+        seed: HashSeed::Fixed,
+    };
+    let report_by_hands = report_on(&hands, alloc, &groups, plan)?;
     let rows = arrange(alloc, &groups, plan)?;
     let report_of_rows = report_text(alloc, &rows, plan)?;
     let schema = plan.schema();
     let list = refused_text(alloc, &groups, schema)?;
-    Ok(Texts {
+    Ok(Outputs {
         report,
         report_by_hands,
         report_of_rows,

@@ -14,7 +14,7 @@ const LEAST: usize = 1_048_578;
 
 /// A reader that gives a few bytes a call, fails once where it is to, and then gives more.
 #[derive(Drop)]
-struct Source<'a> {
+struct FaultyReader<'a> {
     front: &'a [u8],
     fails: bool,
     behind: &'a [u8],
@@ -22,7 +22,7 @@ struct Source<'a> {
     at_once: usize,
 }
 
-impl Read for Source<'_> {
+impl Read for FaultyReader<'_> {
     fn read(&mut self, buf: &mut [u8]) -> io::Result<usize> {
         if self.fails && self.front.is_empty() {
             self.front = self.behind;
@@ -36,7 +36,7 @@ impl Read for Source<'_> {
 
 /// An input with a long run of one byte in it, which is given in rounds with a run that may be shorter.
 #[derive(Clone, Copy, Debug)]
-struct Row {
+struct RoundsCase {
     front: &'static [u8],
     byte: u8,
     count: usize,
@@ -44,7 +44,7 @@ struct Row {
     behind: &'static [u8],
 }
 
-impl Row {
+impl RoundsCase {
     /// The bytes, with this many in the run.
     fn bytes(self, alloc: Global, count: usize) -> Result<Vec<u8>, Fail> {
         let run = vec![in alloc; self.byte; count]?;
@@ -56,8 +56,8 @@ impl Row {
 }
 
 /// A line of so many bytes between two others, and how many of them are given.
-const fn line_between(count: usize, given: usize) -> Row {
-    Row {
+const fn line_between(count: usize, given: usize) -> RoundsCase {
+    RoundsCase {
         front: b"{\"q\":1}\n",
         byte: b'x',
         count,
@@ -67,8 +67,8 @@ const fn line_between(count: usize, given: usize) -> Row {
 }
 
 /// So many feeds, then a line of one byte, and a last line.
-const fn feeds(count: usize) -> Row {
-    Row {
+const fn feeds(count: usize) -> RoundsCase {
+    RoundsCase {
         front: b"",
         byte: b'\n',
         count,
@@ -113,7 +113,7 @@ fn check_rounds<R: Read + Drop>(
 }
 
 /// Checks so of an input in rounds of two sizes, from readers that give few bytes a call and many.
-fn check_row(rt: &impl Abort, alloc: Global, row: Row) -> Result<(), Fail> {
+fn check_row(rt: &impl Abort, alloc: Global, row: RoundsCase) -> Result<(), Fail> {
     let input = row.bytes(alloc, row.count)?;
     let expected = row.bytes(alloc, row.given)?;
     for (size, at_once) in [
@@ -123,7 +123,7 @@ fn check_row(rt: &impl Abort, alloc: Global, row: Row) -> Result<(), Fail> {
         (LEAST, 1_000_000),
         (4_000_000, 1_000_000),
     ] {
-        let source = Source {
+        let source = FaultyReader {
             front: input.as_slice(),
             fails: false,
             behind: b"",
@@ -139,7 +139,7 @@ fn check_row(rt: &impl Abort, alloc: Global, row: Row) -> Result<(), Fail> {
 #[test]
 fn rounds_of_inputs(rt: HostRuntime) -> Result<(), Fail> {
     let rows = [
-        Row {
+        RoundsCase {
             behind: b"",
             ..feeds(0)
         },
@@ -151,7 +151,7 @@ fn rounds_of_inputs(rt: HostRuntime) -> Result<(), Fail> {
         line_between(1_048_577, 1_048_577),
         line_between(1_048_578, 1_048_577),
         line_between(3_000_000, 1_048_577),
-        Row {
+        RoundsCase {
             behind: b"",
             ..line_between(3_000_000, 1_048_577)
         },
@@ -224,7 +224,7 @@ fn rounds_that_are_handed_out(rt: HostRuntime) -> Result<(), Fail> {
 /// Nothing is read before the first round is asked for, so that a reader that fails at once has not failed then.
 #[test]
 fn rounds_begin_unread(rt: HostRuntime) -> Result<(), Fail> {
-    let mut source = Source {
+    let mut source = FaultyReader {
         front: b"",
         fails: true,
         behind: b"ab\n",
@@ -245,7 +245,7 @@ fn rounds_begin_unread(rt: HostRuntime) -> Result<(), Fail> {
 fn rounds_of_readers_that_fail(rt: HostRuntime) -> Result<(), Fail> {
     for (count, given) in [(0, 0), (6, 0), (3_000_000, 2)] {
         let front = vec![in rt.alloc(); b'\n'; count]?;
-        let source = Source {
+        let source = FaultyReader {
             front: front.as_slice(),
             fails: true,
             behind: b"ab\n",

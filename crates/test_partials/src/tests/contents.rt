@@ -1,10 +1,9 @@
 //! What a partial result contains, as plain values.
 use super::partials::{BY_D, plan_or_refused, two_merged};
-use group_states::{GroupEntry, State};
 use lines::LineFault;
 use std::process::Abort;
 use tables::{Partial, PartialContents, Serial};
-use values::Value;
+use values::{GroupEntry, State, Value};
 
 /// Whether this is a group by `d`: of so many lines, with this sum of so many numbers. It takes no memory.
 fn is_group(group: &GroupEntry, key: &str, members: u64, sum: i128, numbers: u64) -> bool {

@@ -94,17 +94,13 @@ fn assert_finds<H: Abort + Threads + Sync>(
     requires partial { IsPartialOf plan.now partial }
     requires hands { 0 < count }
 {
+    let hands = Parallel {
+        rt,
+        workers: count,
+        seed: HashSeed::Fixed,
+    };
     sound_law();
-    let groups = partial
-        .finish_by(
-            &Parallel {
-                rt,
-                workers: count,
-                seed: HashSeed::Fixed,
-            },
-            plan,
-        )
-        .expect(rt, "memory");
+    let groups = partial.finish_by(&hands, plan).expect(rt, "memory");
     assert_eq!(rt; groups.rows().len(), wanted.rows().len());
     let rows = sorted_rows(rt, alloc, &groups);
     let wanted = sorted_rows(rt, alloc, wanted);
@@ -112,7 +108,7 @@ fn assert_finds<H: Abort + Threads + Sync>(
         assert!(rt; is_same(*row, *wanted), "{row:?} / {wanted:?}");
     }
     drop(rows);
-    groups.give_back_among(rt, alloc, count);
+    groups.give_back(&hands, alloc);
 }
 
 /// Asserts that these groups are found by the results over two inputs that so many hands put together, also where one of

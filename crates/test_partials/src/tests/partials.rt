@@ -426,11 +426,11 @@ fn shapes(rt: HostRuntime) {
 
 /// Numbers that look like chance, the same for the same seed: a linear congruential generator.
 #[derive(Debug, Drop)]
-struct Numbers {
+struct LinearCongruential {
     state: u64,
 }
 
-impl Numbers {
+impl LinearCongruential {
     ghost use Rattle.std.specs.Prelude.{◌<◌, length};
 
     /// The next number, below a bound.
@@ -484,7 +484,7 @@ const Q_MEMBERS: [&str; 7] = [
 ];
 
 /// Puts a made-up line behind a text; about one in five is refused.
-fn push_line(numbers: &mut Numbers, text: &mut String) -> Result<(), AllocError> {
+fn push_line(numbers: &mut LinearCongruential, text: &mut String) -> Result<(), AllocError> {
     if numbers.below(5) == 0 {
         text.push_str(numbers.one_of(&BAD_LINES))?;
     } else {
@@ -499,7 +499,7 @@ fn push_line(numbers: &mut Numbers, text: &mut String) -> Result<(), AllocError>
 
 /// A made-up input of up to 50 lines, the last with or without its line feed.
 pub fn made_up_input(alloc: Global, seed: u64) -> Result<String, AllocError> {
-    let mut numbers = Numbers { state: seed };
+    let mut numbers = LinearCongruential { state: seed };
     let mut text = String::new(alloc);
     for _ in 0..numbers.below(51) {
         push_line(&mut numbers, &mut text)?;
@@ -715,18 +715,16 @@ fn assert_four_by_hands<H: Abort + Threads + Sync>(
         return;
     };
     assert_four_counted(rt, &partial);
+    let hands = Parallel {
+        rt,
+        workers: 3,
+        seed: HashSeed::Fixed,
+    };
     sound_law();
-    if let Ok(groups) = partial.finish_by(
-        &Parallel {
-            rt,
-            workers: 3,
-            seed: HashSeed::Fixed,
-        },
-        plan,
-    ) {
+    if let Ok(groups) = partial.finish_by(&hands, plan) {
         let refused = [(3, LineFault::NoObject)];
         assert_two_found(rt, &groups, refused.as_slice());
-        groups.give_back_among(rt, alloc, 3);
+        groups.give_back(&hands, alloc);
     }
 }
 

@@ -1,6 +1,6 @@
 //! Partial results rolled to sets of grouping columns, listed or not.
 ghost use Rattle.std.specs.Prelude.{◌≡◌, true, IfOk};
-ghost use Rattle.tables_groups.specs.Rolled.{AreAmong};
+ghost use Rattle.group_tables.specs.Rolled.{AreAmong};
 ghost use Rattle.tables.specs.Partials.{IsPartialOf};
 ghost use Rattle.tables.specs.Planned.{AreGroupingColumns};
 

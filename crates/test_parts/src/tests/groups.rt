@@ -1,15 +1,12 @@
 //! Groups and their lines.
 
-use super::line_source::Lines;
+use super::line_source::LineList;
 use super::scalars::{Scalar, check_scalars, push_line};
-use group_states::{GroupEntry, State};
-use part_groups::{
-    GroupFaultKind, GroupRefusal, GroupShape, StateKind, next_group, push_group, push_groups,
-};
-use semantics::Kind;
+use part_lines::{GroupShape, PartRefusal, StateKind, next_group, push_group, push_groups};
+use semantics::{Kind, PartsFaultKind};
 use std::alloc::{AllocError, Global};
 use std::process::Abort;
-use values::Value;
+use values::{GroupEntry, State, Value};
 
 /// The groups of `Harbour`, and of no shop, with `SUM(cents)`.
 const SHOPS: &[&[u8]] = &[b"\"Harbour\"", b"2", b"7", b"2", b"null", b"1", b"1", b"1"];
@@ -127,8 +124,8 @@ fn read_groups(
     lines: &'static [&'static [u8]],
     shape: &GroupShape,
     count: u64,
-) -> Result<Vec<GroupEntry>, GroupRefusal> {
-    let mut source = Lines::new(alloc, lines);
+) -> Result<Vec<GroupEntry>, PartRefusal> {
+    let mut source = LineList::new(alloc, lines);
     let mut groups = Vec::new(alloc);
     let mut left = 3;
     for _ in 0..count {
@@ -141,102 +138,102 @@ fn read_groups(
 
 /// Lines that are not two groups of a shop with a sum, of 3 members at most, each with the first fault and the number of its
 /// line. Numbers of 64 bits are from -9223372036854775808 to 9223372036854775807.
-const SHOP_FAULTS: &[(&[&[u8]], u64, GroupFaultKind)] = &[
-    (&[b"'Harbour'", b"2"], 1, GroupFaultKind::NotAValue),
-    (&[b"\"Harbour\"", b"2.0"], 2, GroupFaultKind::NotAValue),
-    (&[b"7", b"2"], 1, GroupFaultKind::UnexpectedValue),
-    (&[b"\"Harbour\"", b"-2"], 2, GroupFaultKind::UnexpectedValue),
+const SHOP_FAULTS: &[(&[&[u8]], u64, PartsFaultKind)] = &[
+    (&[b"'Harbour'", b"2"], 1, PartsFaultKind::NotAValue),
+    (&[b"\"Harbour\"", b"2.0"], 2, PartsFaultKind::NotAValue),
+    (&[b"7", b"2"], 1, PartsFaultKind::UnexpectedValue),
+    (&[b"\"Harbour\"", b"-2"], 2, PartsFaultKind::UnexpectedValue),
     (
         &[b"\"Harbour\"", b"null"],
         2,
-        GroupFaultKind::UnexpectedValue,
+        PartsFaultKind::UnexpectedValue,
     ),
     (
         &[b"\"Harbour\"", b"18446744073709551616"],
         2,
-        GroupFaultKind::UnexpectedValue,
+        PartsFaultKind::UnexpectedValue,
     ),
     (
         &[b"\"Harbour\"", b"18446744073709551615"],
         2,
-        GroupFaultKind::OutOfRange,
+        PartsFaultKind::OutOfRange,
     ),
-    (&[b"\"Harbour\"", b"4"], 2, GroupFaultKind::OutOfRange),
-    (&[b"\"Harbour\"", b"0"], 2, GroupFaultKind::OutOfRange),
+    (&[b"\"Harbour\"", b"4"], 2, PartsFaultKind::OutOfRange),
+    (&[b"\"Harbour\"", b"0"], 2, PartsFaultKind::OutOfRange),
     (
         &[b"\"Harbour\"", b"2", b"\"7\""],
         3,
-        GroupFaultKind::UnexpectedValue,
+        PartsFaultKind::UnexpectedValue,
     ),
     (
         &[b"\"Harbour\"", b"2", b"7", b"3"],
         4,
-        GroupFaultKind::OutOfRange,
+        PartsFaultKind::OutOfRange,
     ),
     (
         &[b"\"Harbour\"", b"2", b"1", b"0"],
         4,
-        GroupFaultKind::OutOfRange,
+        PartsFaultKind::OutOfRange,
     ),
     (
         &[b"\"Harbour\"", b"2", b"9223372036854775808", b"1"],
         4,
-        GroupFaultKind::OutOfRange,
+        PartsFaultKind::OutOfRange,
     ),
     (
         &[b"\"Harbour\"", b"2", b"9223372036854775807", b"1"],
         5,
-        GroupFaultKind::EndsTooEarly,
+        PartsFaultKind::EndsTooEarly,
     ),
     (
         &[b"\"Harbour\"", b"2", b"-9223372036854775809", b"1"],
         4,
-        GroupFaultKind::OutOfRange,
+        PartsFaultKind::OutOfRange,
     ),
     (
         &[b"\"Harbour\"", b"2", b"-9223372036854775808", b"1"],
         5,
-        GroupFaultKind::EndsTooEarly,
+        PartsFaultKind::EndsTooEarly,
     ),
     (
         &[b"\"Harbour\"", b"2", b"7", b"2", b"\"Harbour\""],
         5,
-        GroupFaultKind::OutOfOrder,
+        PartsFaultKind::OutOfOrder,
     ),
     (
         &[b"\"Harbour\"", b"2", b"7", b"2", b"\"Dock\""],
         5,
-        GroupFaultKind::OutOfOrder,
+        PartsFaultKind::OutOfOrder,
     ),
     (
         &[b"\"Harbour\"", b"2", b"7", b"2", b"\"Quay\"", b"2"],
         6,
-        GroupFaultKind::OutOfRange,
+        PartsFaultKind::OutOfRange,
     ),
 ];
 
 /// Lines that are not one group of no column with a state of each kind, in the same way.
-const WHOLE_FAULTS: &[(&[&[u8]], u64, GroupFaultKind)] = &[
-    (&[b"3", b"4"], 2, GroupFaultKind::OutOfRange),
+const WHOLE_FAULTS: &[(&[&[u8]], u64, PartsFaultKind)] = &[
+    (&[b"3", b"4"], 2, PartsFaultKind::OutOfRange),
     (
         &[b"3", b"2", b"-7", b"2", b"5"],
         5,
-        GroupFaultKind::UnexpectedValue,
+        PartsFaultKind::UnexpectedValue,
     ),
     (
         &[b"3", b"2", b"-7", b"2", b"null", b"4"],
         6,
-        GroupFaultKind::OutOfRange,
+        PartsFaultKind::OutOfRange,
     ),
     (
         &[b"3", b"2", b"-7", b"2", b"null", b"1", b"null"],
         7,
-        GroupFaultKind::UnexpectedValue,
+        PartsFaultKind::UnexpectedValue,
     ),
     (
         &[b"3", b"2", b"-7", b"2", b"null", b"1", b"\"a\""],
         7,
-        GroupFaultKind::UnexpectedValue,
+        PartsFaultKind::UnexpectedValue,
     ),
     (
         &[
@@ -249,22 +246,22 @@ const WHOLE_FAULTS: &[(&[&[u8]], u64, GroupFaultKind)] = &[
             b"9223372036854775808",
         ],
         7,
-        GroupFaultKind::UnexpectedValue,
+        PartsFaultKind::UnexpectedValue,
     ),
     (
         &[b"3", b"2", b"-7", b"2", b"null", b"2", b"1", b"-8"],
         8,
-        GroupFaultKind::OutOfOrder,
+        PartsFaultKind::OutOfOrder,
     ),
     (
         &[b"3", b"2", b"-7", b"2", b"null", b"2", b"1", b"1"],
         8,
-        GroupFaultKind::OutOfOrder,
+        PartsFaultKind::OutOfOrder,
     ),
     (
         &[b"3", b"2", b"-7", b"2", b"null", b"2", b"1"],
         8,
-        GroupFaultKind::EndsTooEarly,
+        PartsFaultKind::EndsTooEarly,
     ),
 ];
 
@@ -276,45 +273,45 @@ fn check_fault(
     count: u64,
     lines: &'static [&'static [u8]],
     line: u64,
-    kind: GroupFaultKind,
-) -> Result<(), GroupRefusal> {
+    kind: &PartsFaultKind,
+) -> Result<(), PartRefusal> {
     match read_groups(alloc, lines, shape, count) {
-        Err(GroupRefusal::Fault(fault)) => {
+        Err(PartRefusal::Fault(fault)) => {
             assert_eq!(rt; fault.line, line, "{lines:?}");
-            assert_eq!(rt; fault.kind, kind, "{lines:?}");
+            assert_eq!(rt; &fault.kind, kind, "{lines:?}");
         }
-        Err(GroupRefusal::OutOfMemory) => return Err(GroupRefusal::OutOfMemory),
-        Ok(_) | Err(GroupRefusal::Reading) => panic!(rt; "{lines:?}"),
+        Err(PartRefusal::OutOfMemory) => return Err(PartRefusal::OutOfMemory),
+        Ok(_) | Err(PartRefusal::Reading) => panic!(rt; "{lines:?}"),
     }
     Ok(())
 }
 
 /// Checks that each front of the lines of two groups ends too early, and their other faults.
-fn check_shop_faults(rt: &impl Abort, alloc: Global) -> Result<(), GroupRefusal> {
+fn check_shop_faults(rt: &impl Abort, alloc: Global) -> Result<(), PartRefusal> {
     let shape = shop_shape(alloc)?;
     for (count, _) in SHOPS.iter().enumerate() {
         let line = count as u64 + 1;
-        let kind = GroupFaultKind::EndsTooEarly;
-        check_fault(rt, alloc, &shape, 2, &SHOPS[..count], line, kind)?;
+        let kind = PartsFaultKind::EndsTooEarly;
+        check_fault(rt, alloc, &shape, 2, &SHOPS[..count], line, &kind)?;
     }
     for (lines, line, kind) in SHOP_FAULTS {
-        check_fault(rt, alloc, &shape, 2, lines, *line, *kind)?;
+        check_fault(rt, alloc, &shape, 2, lines, *line, kind)?;
     }
     Ok(())
 }
 
 /// Checks the faults of a group of no column, and that there are no two of them: the key of the second one, which no line
 /// stands for, is not above that of the first one.
-fn check_whole_faults(rt: &impl Abort, alloc: Global) -> Result<(), GroupRefusal> {
+fn check_whole_faults(rt: &impl Abort, alloc: Global) -> Result<(), PartRefusal> {
     let shape = whole_shape(alloc)?;
     for (lines, line, kind) in WHOLE_FAULTS {
-        check_fault(rt, alloc, &shape, 1, lines, *line, *kind)?;
+        check_fault(rt, alloc, &shape, 1, lines, *line, kind)?;
     }
-    check_fault(rt, alloc, &shape, 2, WHOLE, 8, GroupFaultKind::OutOfOrder)
+    check_fault(rt, alloc, &shape, 2, WHOLE, 8, &PartsFaultKind::OutOfOrder)
 }
 
 /// Checks what is written of two groups, and what their lines are read as.
-fn check_shops(rt: &impl Abort, alloc: Global) -> Result<(), GroupRefusal> {
+fn check_shops(rt: &impl Abort, alloc: Global) -> Result<(), PartRefusal> {
     let groups = shops(alloc)?;
     let mut text = Vec::new(alloc);
     push_groups(alloc, &mut text, groups.as_slice())?;
@@ -328,19 +325,19 @@ fn check_shops(rt: &impl Abort, alloc: Global) -> Result<(), GroupRefusal> {
 }
 
 /// Checks the same of one group with a state of each kind.
-fn check_whole(rt: &impl Abort, alloc: Global) -> Result<(), GroupRefusal> {
+fn check_whole(rt: &impl Abort, alloc: Global) -> Result<(), PartRefusal> {
     let group = whole(alloc)?;
     let mut text = Vec::new(alloc);
     push_group(alloc, &mut text, &group)?;
     assert!(rt; text == text_of(alloc, WHOLE)?, "{text:?}");
     let shape = whole_shape(alloc)?;
-    let read = next_group(alloc, &mut Lines::new(alloc, WHOLE), &shape, None, 3)?;
+    let read = next_group(alloc, &mut LineList::new(alloc, WHOLE), &shape, None, 3)?;
     assert!(rt; is_same_group(&read, &group));
     Ok(())
 }
 
 /// Checks all of these. It fails for want of memory alone.
-fn check_groups(rt: &impl Abort, alloc: Global) -> Result<(), GroupRefusal> {
+fn check_groups(rt: &impl Abort, alloc: Global) -> Result<(), PartRefusal> {
     check_shops(rt, alloc)?;
     check_whole(rt, alloc)?;
     check_shop_faults(rt, alloc)?;
@@ -358,8 +355,8 @@ fn worked_examples(rt: HostRuntime) {
 #[test]
 fn refusal_of_groups(rt: HostRuntime) {
     match check_groups(&rt, rt.alloc()) {
-        Ok(()) | Err(GroupRefusal::OutOfMemory) => {}
-        Err(GroupRefusal::Fault(_) | GroupRefusal::Reading) => {
+        Ok(()) | Err(PartRefusal::OutOfMemory) => {}
+        Err(PartRefusal::Fault(_) | PartRefusal::Reading) => {
             panic!(rt; "a good group is refused");
         }
     }

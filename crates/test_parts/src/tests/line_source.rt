@@ -1,11 +1,12 @@
 //! Lines as a source of values.
 ghost use Rattle.std.specs.Prelude.{◌≡◌, ◌≤◌, drop, length, map};
-ghost use Rattle.part_groups.specs.Reading.{reading_of};
-ghost use Rattle.part_text.specs.Reading.{Tells};
+ghost use Rattle.part_lines.specs.Faults.{fault_at_line};
+ghost use Rattle.part_lines.specs.Reading.{reading_of};
+ghost use Rattle.part_lines.specs.LineValues.{Tells};
 
-use part_groups::{GroupFault, GroupFaultKind, GroupRefusal, Source};
-use part_text::{Scratch, ValueFault, read_value};
-use std::alloc::Global;
+use part_lines::{PartFault, PartRefusal, Scratch, ValueReader, read_value};
+use semantics::PartsFaultKind;
+use std::alloc::{AllocError, Global};
 use values::Value;
 
 /// The most bytes of a line.
@@ -13,7 +14,7 @@ const MAX_LINE_LEN: usize = 1_048_576;
 
 /// Lines, read one after the other.
 #[derive(Drop)]
-pub struct Lines {
+pub struct LineList {
     alloc: Global,
     scratch: Scratch,
     lines: &'static [&'static [u8]],
@@ -21,10 +22,10 @@ pub struct Lines {
     ghost within: { place ≤ length lines.now },
 }
 
-impl Lines {
+impl LineList {
     /// Before the first line.
-    pub fn new(alloc: Global, lines: &'static [&'static [u8]]) -> Lines {
-        Lines {
+    pub fn new(alloc: Global, lines: &'static [&'static [u8]]) -> LineList {
+        LineList {
             alloc,
             scratch: Scratch::new(alloc),
             lines,
@@ -33,7 +34,7 @@ impl Lines {
     }
 }
 
-impl Source for Lines {
+impl ValueReader for LineList {
     ghost known = { λ _. Unit {0} };
 
     ghost stream = { λ inside. record {
@@ -41,15 +42,14 @@ impl Source for Lines {
       place = inside.place;
     } };
 
-    fn next(&mut self) -> Result<Value, GroupRefusal> {
+    fn next(&mut self) -> Result<Value, PartRefusal> {
         let Some(line) = self.lines.get(self.place) else {
-            return Err(fault(self.place as u64 + 1, GroupFaultKind::EndsTooEarly));
+            return Err(fault(self.place as u64 + 1, PartsFaultKind::EndsTooEarly));
         };
         self.place += 1;
-        match value_of(self.alloc, &mut self.scratch, line) {
-            Ok(value) => Ok(value),
-            Err(ValueFault::NotAValue) => Err(fault(self.place as u64, GroupFaultKind::NotAValue)),
-            Err(ValueFault::OutOfMemory) => Err(GroupRefusal::OutOfMemory),
+        match value_of(self.alloc, &mut self.scratch, line)? {
+            Some(value) => Ok(value),
+            None => Err(fault(self.place as u64, PartsFaultKind::NotAValue)),
         }
     }
 
@@ -58,19 +58,19 @@ impl Source for Lines {
     }
 }
 
-/// The value of a line.
-fn value_of(alloc: Global, scratch: &mut Scratch, line: &[u8]) -> Result<Value, ValueFault>
+/// The value of a line, if it has one.
+fn value_of(alloc: Global, scratch: &mut Scratch, line: &[u8]) -> Result<Option<Value>, AllocError>
     ensures { Tells result (reading_of line.now) }
 {
     if line.len() > MAX_LINE_LEN {
-        return Err(ValueFault::NotAValue);
+        return Ok(None);
     }
     read_value(alloc, scratch, line)
 }
 
 /// A fault of this kind at the line of this number.
-pub fn fault(line: u64, kind: GroupFaultKind) -> GroupRefusal
-    ensures { result ≡ GroupRefusal.Fault (record { line = line; kind = kind }) }
+pub fn fault(line: u64, kind: PartsFaultKind) -> PartRefusal
+    ensures { result ≡ fault_at_line line kind }
 {
-    GroupRefusal::Fault(GroupFault { line, kind })
+    PartRefusal::Fault(PartFault { line, kind })
 }

@@ -1,6 +1,6 @@
 //! Parts of shards, and their joins: what these write, and where a read or a write fails.
 use super::running::{BY_D, BY_D_REPORT, By, is_refusal, make_plan, plan_if_any};
-use super::streams::{Pause, Sink, Source};
+use super::streams::{Pause, PauseReader, Sink};
 use jlreport_cli::Options;
 use jlreport_engine::{Done, JoinFault, RunFault, join_partial, run_join, run_partial};
 use query::Plan;
@@ -60,12 +60,12 @@ fn joins(rt: HostRuntime) {
     for workers in [1, 3] {
         let options = By::Workers(workers).options(&rt, 7, None);
         let given = parts(&rt, rt.alloc(), (&plan, options));
-        let reader = Source::whole(given.as_slice(), 5);
+        let reader = PauseReader::whole(given.as_slice(), 5);
         let (mut out, mut err) = (Vec::new(rt.alloc()), Vec::new(rt.alloc()));
         let met = run_join(&rt, rt.alloc(), &plan, options, reader, &mut out, &mut err);
         assert!(rt; met == Ok(DONE), "{met:?}");
         assert!(rt; out.as_slice() == BY_D_REPORT && err.as_slice() == REFUSED);
-        let reader = Source::whole(given.as_slice(), 5);
+        let reader = PauseReader::whole(given.as_slice(), 5);
         let mut part = Vec::new(rt.alloc());
         let met = join_partial(&rt, rt.alloc(), &plan, options, reader, &mut part);
         assert!(rt; met == Ok(DONE), "{met:?}");
@@ -96,9 +96,9 @@ fn limit_of_joins(rt: HostRuntime) {
 }
 
 /// A reader of bytes that fails behind so many of them.
-fn failing_behind<'a>(bytes: &'a [u8], len: usize) -> Source<'a> {
+fn failing_behind<'a>(bytes: &'a [u8], len: usize) -> PauseReader<'a> {
     let (front, behind) = bytes.split_at(bytes.len().min(len));
-    Source {
+    PauseReader {
         front,
         pause: Pause::Error(ErrorKind::Other),
         behind,

@@ -3,7 +3,7 @@
 use super::running::{
     BY_D, By, Case, LEAST_ROUND, assert_done, assert_run_or_refused, assert_too_many, make_plan,
 };
-use super::streams::{Pause, Source};
+use super::streams::{Pause, PauseReader};
 use jlreport_cli::Options;
 use jlreport_engine::Done;
 use std::alloc::{AllocError, Global};
@@ -122,7 +122,7 @@ fn assert_done_in_rounds(
     for by in CALLS {
         for (round, piece, at_once) in SIZES {
             let asked = in_rounds(rt, by, (round, piece), None);
-            let reader = Source::whole(case.input, at_once);
+            let reader = PauseReader::whole(case.input, at_once);
             assert_done(rt, alloc, asked, (&plan, case), reader);
         }
     }
@@ -172,10 +172,10 @@ fn limits_over_rounds(rt: HostRuntime) -> Result<(), Fail> {
         for round in ROUNDS {
             let sizes = (round, 1_048_576);
             let less = in_rounds(&rt, by, sizes, Some(4));
-            let reader = Source::whole(case.input, 1_000_000);
+            let reader = PauseReader::whole(case.input, 1_000_000);
             assert_too_many(&rt, alloc, less, &plan, reader);
             let enough = in_rounds(&rt, by, sizes, Some(5));
-            let reader = Source::whole(case.input, 1_000_000);
+            let reader = PauseReader::whole(case.input, 1_000_000);
             assert_done(&rt, alloc, enough, (&plan, &case), reader);
         }
     }
@@ -194,7 +194,7 @@ fn limits_before_a_read_that_fails(rt: HostRuntime) -> Result<(), Fail> {
     let plan = make_plan(&rt, alloc, SUM);
     for by in CALLS {
         let asked = in_rounds(&rt, by, (LEAST_ROUND, 1_048_576), Some(0));
-        let reader = Source {
+        let reader = PauseReader {
             front: lines.as_slice(),
             pause: Pause::Error(ErrorKind::Other),
             behind: b"",

@@ -1,6 +1,6 @@
 //! Runs over readers and writers that are slow, are interrupted or fail, in one round and in several, alone and on
 //! threads, and with memory refused.
-use super::streams::{Pause, Sink, Source};
+use super::streams::{Pause, PauseReader, Sink};
 use jlreport_cli::Options;
 use jlreport_engine::{Done, RunFault, run, run_alone};
 use query::{Plan, check, parse};
@@ -149,7 +149,7 @@ pub fn assert_done(
     alloc: Global,
     asked: (By, Options),
     (plan, case): (&Plan, &Case<'_>),
-    reader: Source<'_>,
+    reader: PauseReader<'_>,
 ) {
     let mut out = Vec::new(alloc);
     let mut err = Vec::new(alloc);
@@ -187,7 +187,7 @@ fn assert_done_by_all(
 ) {
     for by in CALLS {
         for (piece, at_once) in SIZES {
-            let reader = Source {
+            let reader = PauseReader {
                 front: case.input,
                 pause: Pause::Nothing,
                 behind: b"no line\n",
@@ -219,7 +219,7 @@ fn assert_not_read(
     let mut out = Vec::new(alloc);
     let mut err = Vec::new(alloc);
     let (front, behind) = case.input.split_at(count.min(case.input.len()));
-    let reader = Source {
+    let reader = PauseReader {
         front,
         pause: Pause::Error(kind),
         behind,
@@ -348,7 +348,7 @@ pub fn assert_too_many(
     alloc: Global,
     (by, options): (By, Options),
     plan: &Plan,
-    reader: Source<'_>,
+    reader: PauseReader<'_>,
 ) {
     let mut out = Vec::new(alloc);
     let mut err = Vec::new(alloc);
@@ -370,9 +370,9 @@ fn assert_limited(
     let less = (by, by.options(rt, piece, Some(3)));
     let enough = (by, by.options(rt, piece, Some(4)));
     for _ in 0..50 {
-        let reader = Source::whole(REFUSED.input, 7);
+        let reader = PauseReader::whole(REFUSED.input, 7);
         assert_too_many(rt, alloc, less, plan, reader);
-        let reader = Source::whole(REFUSED.input, 7);
+        let reader = PauseReader::whole(REFUSED.input, 7);
         assert_done(rt, alloc, enough, (plan, &REFUSED), reader);
     }
 }

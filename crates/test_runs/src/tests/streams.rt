@@ -13,7 +13,7 @@ pub enum Pause {
 
 /// A reader that gives some bytes, then pauses once, and then gives more.
 #[derive(Drop)]
-pub struct Source<'a> {
+pub struct PauseReader<'a> {
     pub front: &'a [u8],
     pub pause: Pause,
     pub behind: &'a [u8],
@@ -21,10 +21,10 @@ pub struct Source<'a> {
     pub at_once: usize,
 }
 
-impl<'a> Source<'a> {
+impl<'a> PauseReader<'a> {
     /// A reader that gives all of these bytes.
-    pub fn whole(bytes: &'a [u8], at_once: usize) -> Source<'a> {
-        Source {
+    pub fn whole(bytes: &'a [u8], at_once: usize) -> PauseReader<'a> {
+        PauseReader {
             front: bytes,
             pause: Pause::Nothing,
             behind: b"",
@@ -33,7 +33,7 @@ impl<'a> Source<'a> {
     }
 }
 
-impl Read for Source<'_> {
+impl Read for PauseReader<'_> {
     fn read(&mut self, buf: &mut [u8]) -> io::Result<usize> {
         if self.front.is_empty() {
             self.front = self.behind;

@@ -1,13 +1,12 @@
-use Rattle.std.proofs.Common.{◌++◌, ◌∷◌, [], None, ap, option_map, arith, length-append}
+use Rattle.std.proofs.Common.{◌++◌, ◌∷◌, [], None, option_map, arith, length-append}
 use Rattle.std.proofs.lemmas.Result.{err_from_is_err_and}
-use Rattle.group_states.specs.States.{entry_of}
-use Rattle.part_groups.specs.Groups.{shape_of}
+use Rattle.values.specs.GroupStates.{entry_of}
+use Rattle.part_lines.specs.Groups.{shape_of}
 use Rattle.semantics.specs.Parts.{groups_values, text_of}
-use Rattle.part_groups.specs.Reading.{groups_at}
-use Rattle.part_groups.proofs.Loop.{groups_are_done, groups_end, groups_go_on}
+use Rattle.part_lines.specs.Reading.{groups_at}
+use Rattle.part_lines.proofs.Loop.{groups_are_done, groups_end, groups_go_on}
 use Rattle.parts.specs.Inside.Gathering.{groups_of, key_of}
-use Rattle.parts.specs.ReadingParts.{of_part}
-use Rattle.parts.proofs.OfGroups.{differs-more, hashed-group, refused-as_part}
+use Rattle.parts.proofs.OfGroups.{differs-more, hashed-group}
 use Rattle.parts.proofs.groups.next_groups.Goals as goal
 
 pub returns-in_err-group-clause-read : goal.returns-in_err-group-clause-read
@@ -17,10 +16,9 @@ returns-in_err-group-clause-read g c = λ known.
     let shape = shape_of c.args.shape.now in
     let last = option_map key_of c.loop.so_far.last in
     let here = rw c.last_key.ensures at (c.in_err-group.ensures.read so_far.0) in
-    let total = groups_at shape c.args.count None c.args.start.left (g.S.Source.stream c.args.source.now) in
+    let total = groups_at shape c.args.count None c.args.start.left (g.S.ValueReader.stream c.args.source.now) in
     rw (p.1, p.2)
-    (refused-as_part c.in_err-group.field-0.0 total
-    (groups_end shape c.in_err-group.field-0.0 (groups_of c.loop.so_far) c.args.count c.loop.counter last c.loop.so_far.left (g.S.Source.stream c.loop.source) total c.loop-test.true here so_far.1))
+    (groups_end shape c.in_err-group.field-0.0 (groups_of c.loop.so_far) c.args.count c.loop.counter last c.loop.so_far.left (g.S.ValueReader.stream c.loop.source) total c.loop-test.true here so_far.1)
 
 pub loop-preserved : goal.loop-preserved
 loop-preserved g c =
@@ -28,13 +26,13 @@ loop-preserved g c =
     let group = entry_of c.in_ok-group.group in
     let shape = shape_of c.args.shape.now in
     let last = option_map key_of c.loop.so_far.last in
-    let total = groups_at shape c.args.count None c.args.start.left (g.S.Source.stream c.args.source.now) in record {
+    let total = groups_at shape c.args.count None c.args.start.left (g.S.ValueReader.stream c.args.source.now) in record {
       read = λ known.
           let so_far = c.loop.invariant.read known in
           let here = rw c.last_key.ensures at (c.in_ok-group.ensures.read so_far.0) in (
             c.in_ok-group.ensures.known so_far.0,
             rw (next.groups, next.last, next.left)
-                (groups_go_on shape (groups_of c.loop.so_far) c.args.count c.loop.counter last c.loop.so_far.left (g.S.Source.stream c.loop.source) group (g.S.Source.stream c.next_group.new.source) total c.loop-test.true here so_far.1),
+                (groups_go_on shape (groups_of c.loop.so_far) c.args.count c.loop.counter last c.loop.so_far.left (g.S.ValueReader.stream c.loop.source) group (g.S.ValueReader.stream c.next_group.new.source) total c.loop-test.true here so_far.1),
           );
       count = rw next.groups (omega (arith, c.loop.invariant.count, length-append (groups_of c.loop.so_far) (group ∷ [])));
       gathering = next.gathering;
@@ -48,5 +46,5 @@ loop-preserved g c =
 pub returns-clause-read : goal.returns-clause-read
 returns-clause-read g c = λ known.
     let shape = shape_of c.args.shape.now in
-    let total = groups_at shape c.args.count None c.args.start.left (g.S.Source.stream c.args.source.now) in
-    ap of_part (groups_are_done shape (groups_of c.loop.so_far) c.args.count c.loop.counter (option_map key_of c.loop.so_far.last) c.loop.so_far.left (g.S.Source.stream c.loop.source) total c.loop-test.false (c.loop.invariant.read known).1)
+    let total = groups_at shape c.args.count None c.args.start.left (g.S.ValueReader.stream c.args.source.now) in
+    groups_are_done shape (groups_of c.loop.so_far) c.args.count c.loop.counter (option_map key_of c.loop.so_far.last) c.loop.so_far.left (g.S.ValueReader.stream c.loop.source) total c.loop-test.false (c.loop.invariant.read known).1

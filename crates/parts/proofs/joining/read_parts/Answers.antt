@@ -5,7 +5,7 @@ use Rattle.std.specs.Prelude.{List, ℕ, IsTrue, string_bytes}
 use Rattle.std.specs.Str.{is_utf8}
 use Rattle.semantics.specs.Canonical.{canonical_text}
 use Rattle.values.specs.Schema.{IsSchema}
-use Rattle.part_text.proofs.Spellings.{utf8-held}
+use Rattle.part_lines.proofs.Spellings.{utf8-held}
 use Rattle.parts.specs.Inside.Reader.{IsKnown, stream_of}
 use Rattle.parts.proofs.Answering.{known-all, known-fault, known-stands}
 use Rattle.parts.proofs.Takes.{known-taken, none-given}

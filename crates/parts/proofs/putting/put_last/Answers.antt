@@ -1,5 +1,5 @@
 use Rattle.std.proofs.Common.{Option, subst}
-use Rattle.group_states.specs.declared.entry.GroupEntry.{GroupEntry}
+use Rattle.values.specs.declared.group_entry.GroupEntry.{GroupEntry}
 use Rattle.parts.specs.Inside.Gathering.{CanHold}
 use Rattle.parts.proofs.Holding.{put-holds}
 use Rattle.parts.proofs.putting.put_last.Goals as goal

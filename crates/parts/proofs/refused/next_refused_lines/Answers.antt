@@ -11,7 +11,7 @@ returns-in_err-line-clause-read g c = λ known.
     let so_far = c.loop.invariant.read known in
     let p = err_from_is_err_and c.from_residual.result c.from_residual.ensures.1 in
     rw (p.1, p.2)
-    (ends (fields_of c.args.columns.now) c.args.lines c.in_err-line.field-0.0 c.loop.refused.items c.args.count c.loop.counter c.loop.last (g.S.Source.stream c.loop.source) (refused_at (fields_of c.args.columns.now) c.args.lines c.args.count 0 (g.S.Source.stream c.args.source.now)) c.loop-test.true (c.in_err-line.ensures.read so_far.0) so_far.1)
+    (ends (fields_of c.args.columns.now) c.args.lines c.in_err-line.field-0.0 c.loop.refused.items c.args.count c.loop.counter c.loop.last (g.S.ValueReader.stream c.loop.source) (refused_at (fields_of c.args.columns.now) c.args.lines c.args.count 0 (g.S.ValueReader.stream c.args.source.now)) c.loop-test.true (c.in_err-line.ensures.read so_far.0) so_far.1)
 
 pub loop-preserved : goal.loop-preserved
 loop-preserved g c =
@@ -20,7 +20,7 @@ loop-preserved g c =
           let so_far = c.loop.invariant.read known in (
             c.in_ok-line.ensures.known so_far.0,
             rw c.in_ok-push.ensures.items
-                (goes_on (fields_of c.args.columns.now) c.args.lines c.loop.refused.items c.args.count c.loop.counter c.loop.last (g.S.Source.stream c.loop.source) line (g.S.Source.stream c.next_refused_line.new.source) (refused_at (fields_of c.args.columns.now) c.args.lines c.args.count 0 (g.S.Source.stream c.args.source.now)) c.loop-test.true (c.in_ok-line.ensures.read so_far.0) so_far.1),
+                (goes_on (fields_of c.args.columns.now) c.args.lines c.loop.refused.items c.args.count c.loop.counter c.loop.last (g.S.ValueReader.stream c.loop.source) line (g.S.ValueReader.stream c.next_refused_line.new.source) (refused_at (fields_of c.args.columns.now) c.args.lines c.args.count 0 (g.S.ValueReader.stream c.args.source.now)) c.loop-test.true (c.in_ok-line.ensures.read so_far.0) so_far.1),
           );
       count = omega (arith, c.in_ok-push.ensures.len, c.loop.invariant.count);
       within = rw c.in_ok-push.ensures.items (All-push (λ l. l.0 ≤ c.args.lines) c.loop.refused.items line c.loop.invariant.within c.in_ok-line.ensures.within);
@@ -29,4 +29,4 @@ loop-preserved g c =
 
 pub returns-clause-read : goal.returns-clause-read
 returns-clause-read g c = λ known.
-    is_done (fields_of c.args.columns.now) c.args.lines c.loop.refused.items c.args.count c.loop.counter c.loop.last (g.S.Source.stream c.loop.source) (refused_at (fields_of c.args.columns.now) c.args.lines c.args.count 0 (g.S.Source.stream c.args.source.now)) c.loop-test.false (c.loop.invariant.read known).1
+    is_done (fields_of c.args.columns.now) c.args.lines c.loop.refused.items c.args.count c.loop.counter c.loop.last (g.S.ValueReader.stream c.loop.source) (refused_at (fields_of c.args.columns.now) c.args.lines c.args.count 0 (g.S.ValueReader.stream c.args.source.now)) c.loop-test.false (c.loop.invariant.read known).1

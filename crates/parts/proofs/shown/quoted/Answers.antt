@@ -3,7 +3,7 @@ use Rattle.std.specs.Global.{Vec}
 use Rattle.std.specs.Prelude.{ℕ}
 use Rattle.json.specs.Print.{print}
 use Rattle.json.specs.Token.{Token, string}
-use Rattle.part_text.proofs.Spellings.{print-one}
+use Rattle.part_lines.proofs.Spellings.{print-one}
 use Rattle.parts.proofs.shown.quoted.Goals as goal
 
 pub returns : goal.returns

@@ -88,4 +88,5 @@ returns c =
     let inv = c.loop-source.invariant in
     let end = c.in-None.ensures.steps.0 in
     let ok = c.loop-source.made.ok in
-    new_deal inv.2.0 (vec_len c.args.sources) c.args.pieces c.loop-source.made.items c.requires.count.0 c.requires.count.1 (omega (arith, inv.0, end, ok)) inv.2.3
+    let few = c.requires.count.1 in
+    new_deal inv.2.0 (vec_len c.args.sources) c.args.pieces c.loop-source.made.items c.requires.count.0 (omega (arith, few)) (omega (arith, inv.0, end, ok)) inv.2.3

@@ -9,7 +9,7 @@ pub fan_ready-requires-clause-ready : goal.fan_ready-requires-clause-ready
 fan_ready-requires-clause-ready g c κs within =
     let made = c.in_ok-parts.ensures in
     let ready = c.in_ok-ready.ensures in
-    ready_new ((g.met.W.Work g.world.𝓛 g.world.𝓜 g.world.𝓡 ((λ s x. x), (λ x. x), (λ x. x), λ x. x)).lawful c.args.work.now) g.W.Work.meaning (λ s. s.sum) c.in_ok-ready.ready.items c.args.hands.items c.args.shares.items c.in_ok-parts.parts.items (vec_len c.args.hands) (g.W.Work.meaning c.args.part) ready.hands ready.sums ready.parts c.requires.deal made.parts made.together
+    ready_new ((g.met.W.Work g.world.𝓛 g.world.𝓜 g.world.𝓡 ((λ s x. x), (λ x. x), (λ x. x), λ x. x)).lawful c.args.crew.work.now) g.W.Work.meaning (λ s. s.sum) c.in_ok-ready.ready.items c.args.hands.items c.args.shares.items c.in_ok-parts.parts.items (vec_len c.args.hands) (g.W.Work.meaning c.args.part) ready.hands ready.sums ready.parts c.requires.deal made.parts made.together
     c.requires.loads c.requires.room
 
 pub returns-clause-decided : goal.returns-clause-decided

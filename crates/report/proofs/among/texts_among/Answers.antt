@@ -1,8 +1,8 @@
 use Rattle.std.proofs.Common.{◌≡◌, ◌∙◌, ◌*◌, ℕ, Bor, List, IfOk, length, map, take, drop, get_or, ap, sym, subst, arith}
 use Rattle.std.proofs.lemmas.List.{drop-map, length-map, take-map}
 use Rattle.semantics.specs.Aggregates.{Summary}
-use Rattle.tables_groups.specs.declared.group.Group.{Group}
-use Rattle.tables_groups.specs.Found.{row_of}
+use Rattle.group_tables.specs.declared.group.Group.{Group}
+use Rattle.group_tables.specs.Found.{row_of}
 use Rattle.report.specs.Inside.Parts.{IsTextOf}
 use Rattle.report_rows.specs.Sources.{cells_at}
 use Rattle.report.specs.Inside.Text.{rows_bytes}

@@ -1,8 +1,8 @@
 use Rattle.std.proofs.Common.{◌≡◌, All, IfOk, List, length, map, subst, sym}
 use Rattle.query_plan.specs.Planned.{PlannedQuery}
-use Rattle.tables_groups.specs.Fitting.{AreFitting}
+use Rattle.group_tables.specs.Fitting.{AreFitting}
 use Rattle.semantics.specs.Found.{Found}
-use Rattle.tables_groups.specs.Found.{row_of}
+use Rattle.group_tables.specs.Found.{row_of}
 use Rattle.semantics.specs.Order.{rows_shown}
 use Rattle.report_rows.specs.Shown.{cells_of}
 use Rattle.report.proofs.arranging.arrange.Goals as goal

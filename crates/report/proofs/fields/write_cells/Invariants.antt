@@ -1,6 +1,6 @@
 use Rattle.std.proofs.Common.{◌≡◌, [], map, take}
 use Rattle.csv.specs.Records.{fields_of, partial_of}
-use Rattle.tables_groups.specs.Cells.{summary_of}
+use Rattle.group_tables.specs.Cells.{summary_of}
 use Rattle.semantics.specs.Texts.{cell_field}
 use Rattle.report.proofs.fields.write_cells.Given as goal
 

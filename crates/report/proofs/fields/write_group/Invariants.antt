@@ -1,7 +1,7 @@
 use Rattle.std.proofs.Common.{◌≡◌, [], map, take}
 use Rattle.csv.specs.Records.{fields_of, partial_of}
 use Rattle.values.specs.Datum.{data_of}
-use Rattle.tables_groups.specs.Cells.{summary_of}
+use Rattle.group_tables.specs.Cells.{summary_of}
 use Rattle.report_rows.specs.Sources.{shown_at}
 use Rattle.semantics.specs.Texts.{cell_field}
 use Rattle.report.proofs.fields.write_group.Given as goal

@@ -2,9 +2,9 @@ use Rattle.std.proofs.Common.{◌≡◌, ◌∙◌, ◌+◌, ◌++◌, ◌-◌, 
 use Rattle.std.specs.Io.KnownBytes.{Appends}
 use Rattle.std.proofs.KnownBytes.{Appends-trans}
 use Rattle.csv.specs.Writing.{text_written}
-use Rattle.tables_groups.specs.declared.group.Group.{Group}
+use Rattle.group_tables.specs.declared.group.Group.{Group}
 use Rattle.semantics.specs.Aggregates.{Summary}
-use Rattle.tables_groups.specs.Found.{row_of}
+use Rattle.group_tables.specs.Found.{row_of}
 use Rattle.report_rows.specs.Sources.{cells_at}
 use Rattle.report.specs.Inside.Text.{rows_bytes}
 use Rattle.report_rows.proofs.Maps.{map-more}

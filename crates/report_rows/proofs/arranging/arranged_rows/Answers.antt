@@ -3,15 +3,15 @@ use Rattle.std.specs.Global.{Vec}
 use Rattle.std.specs.List.{AllByRecursion}
 use Rattle.std.proofs.lemmas.List.{map_push}
 use Rattle.semantics.specs.Sets.{sets_of}
-use Rattle.tables_groups.specs.declared.group.Group.{Group}
+use Rattle.group_tables.specs.declared.group.Group.{Group}
 use Rattle.semantics.specs.Aggregates.{Summary}
 use Rattle.semantics.specs.Found.{Found}
-use Rattle.tables_groups.specs.Found.{row_of}
+use Rattle.group_tables.specs.Found.{row_of}
 use Rattle.semantics.specs.Order.{rows_in_order}
 use Rattle.report_rows.specs.Shown.{cells_of}
 use Rattle.semantics.specs.Rows.{row_shown}
 use Rattle.report_rows.specs.declared.row.ReportRow.{ReportRow}
-use Rattle.report_rows.specs.declared.source.Source.{Source}
+use Rattle.report_rows.specs.declared.source.ValueSource.{ValueSource}
 use Rattle.report_rows.specs.Sources.{cells_at}
 use Rattle.report_rows.proofs.Sources.{sources-at, sources-count}
 use Rattle.report_rows.proofs.Keeping.{within-having_true}
@@ -44,7 +44,7 @@ loop-group-preserved c =
     let group = row_of c.in-Some.group.now in
     let within = subst (λ (gs : List (Bor (ℕ × Group))). AllByRecursion (λ x. x.0 < length (sets_of fields t)) (map shows gs)) is c.loop-group.invariant.within in
     let shows_group : cells_at c.deref.result.now group ≡ row_shown fields t group =
-    ap (λ (s : List (Vec Source)). cells_at s group) c.deref.ensures.value
+    ap (λ (s : List (Vec ValueSource)). cells_at s group) c.deref.ensures.value
     ∙ sources-at c.args.plan.now (sets_of fields t) c.in_ok-sources.sources.items group.0 within.0 c.in_ok-sources.ensures group.1.key group.1.cells in
     record {
       shown = ap (λ (rs : List ReportRow). map cells_of rs ++ later) c.in_ok-push.ensures.items ∙ ap (λ (zs : List (List Summary)). zs ++ later) (map_push cells_of rows row) ∙ append_assoc (map cells_of rows) (cells_of row ∷ []) later
@@ -59,7 +59,7 @@ row_for-requires c =
     let shows = λ (r : Bor (ℕ × Group)). row_of r.now in
     let within = subst (λ (gs : List (Bor (ℕ × Group))). AllByRecursion (λ x. x.0 < length (sets_of fields t)) (map shows gs)) c.in-Some.ensures.steps.0 c.loop-group.invariant.within in
     let as_many : length (sets_of fields t) ≡ length c.deref.result.now =
-    sym (sources-count c.args.plan.now (sets_of fields t) c.in_ok-sources.sources.items c.in_ok-sources.ensures) ∙ ap (λ (l : List (Vec Source)). length l) (sym c.deref.ensures.value) in
+    sym (sources-count c.args.plan.now (sets_of fields t) c.in_ok-sources.sources.items c.in_ok-sources.ensures) ∙ ap (λ (l : List (Vec ValueSource)). length l) (sym c.deref.ensures.value) in
     subst (λ (n : ℕ). (row_of c.in-Some.group.now).0 < n) as_many within.0
 
 pub returns-clause-wide : goal.returns-clause-wide

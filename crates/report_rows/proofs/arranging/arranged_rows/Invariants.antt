@@ -1,8 +1,8 @@
 use Rattle.std.proofs.Common.{◌≡◌, ◌++◌, ◌<◌, Bor, ℕ, length, map}
 use Rattle.std.specs.List.{AllByRecursion}
 use Rattle.semantics.specs.Sets.{sets_of}
-use Rattle.tables_groups.specs.declared.group.Group.{Group}
-use Rattle.tables_groups.specs.Found.{row_of}
+use Rattle.group_tables.specs.declared.group.Group.{Group}
+use Rattle.group_tables.specs.Found.{row_of}
 use Rattle.semantics.specs.Order.{rows_shown}
 use Rattle.report_rows.specs.Shown.{cells_of}
 use Rattle.semantics.specs.Rows.{row_shown}

@@ -1,7 +1,7 @@
 use Rattle.std.proofs.Common.{◌∙◌, List, map, ap, take_all}
-use Rattle.tables_groups.specs.Cells.{summary_of}
-use Rattle.tables_groups.specs.Found.{row_of}
-use Rattle.report_rows.specs.declared.source.Source.{Source}
+use Rattle.group_tables.specs.Cells.{summary_of}
+use Rattle.group_tables.specs.Found.{row_of}
+use Rattle.report_rows.specs.declared.source.ValueSource.{ValueSource}
 use Rattle.report_rows.specs.Sources.{shown_at}
 use Rattle.report_rows.proofs.Maps.{map-pushed}
 use Rattle.report_rows.proofs.arranging.row_for.Goals as goal
@@ -15,7 +15,7 @@ loop-source-preserved c =
 pub returns : goal.returns
 returns c =
     let row = row_of c.args.found.now in
-    let shown = λ (ss : List Source). map (shown_at row.1.key row.1.cells) ss in
+    let shown = λ (ss : List ValueSource). map (shown_at row.1.key row.1.cells) ss in
     c.loop-source.invariant
     ∙ ap shown (take_all c.loop-source.source-index c.sources_at-set_sources.result.now c.loop-source-test.false)
     ∙ ap shown c.sources_at-set_sources.ensures

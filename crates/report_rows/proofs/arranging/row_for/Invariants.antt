@@ -1,6 +1,6 @@
 use Rattle.std.proofs.Common.{◌≡◌, map, take}
 use Rattle.values.specs.Datum.{data_of}
-use Rattle.tables_groups.specs.Cells.{summary_of}
+use Rattle.group_tables.specs.Cells.{summary_of}
 use Rattle.report_rows.specs.Sources.{shown_at}
 use Rattle.report_rows.proofs.arranging.row_for.Given as goal
 

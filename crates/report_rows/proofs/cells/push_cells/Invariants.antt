@@ -1,6 +1,6 @@
 use Rattle.std.proofs.Common.{◌≡◌, ◌++◌, drop, map}
 use Rattle.values.specs.Datum.{data_of}
-use Rattle.tables_groups.specs.Cells.{summary_of}
+use Rattle.group_tables.specs.Cells.{summary_of}
 use Rattle.semantics.specs.Rows.{cell_value}
 use Rattle.report_rows.proofs.cells.push_cells.Given as goal
 

@@ -1,7 +1,7 @@
 use Rattle.std.proofs.Common.{◌≡◌, ◌∙◌, Bor, List, ℕ, map, subst}
 use Rattle.std.specs.List.{AllByRecursion}
 use Rattle.std.proofs.lemmas.Result.{IfOk-weaker}
-use Rattle.tables_groups.specs.declared.group.Group.{Group}
+use Rattle.group_tables.specs.declared.group.Group.{Group}
 use Rattle.report_rows.specs.declared.coded_key.CodedKey.{CodedKey}
 use Rattle.report_rows.specs.Inside.SortEntries.{IsCodableRow, coded_form, entry_at, entry_form}
 use Rattle.report_rows.proofs.Rows.{ranks-moved, row_at, sorted-ranks}

@@ -2,7 +2,7 @@ use Rattle.std.proofs.Common.{◌≡◌, ◌∙◌, Bor, IsPermutation, List, �
 use Rattle.std.specs.List.{flat_map}
 use Rattle.std.proofs.lemmas.Result.{IfOk-weaker}
 use Rattle.std.proofs.lemmas.List.Sorted.{IsPermutation-map, IsPermutation-trans}
-use Rattle.tables_groups.specs.declared.group.Group.{Group}
+use Rattle.group_tables.specs.declared.group.Group.{Group}
 use Rattle.report_rows.specs.Parts.{AreMade, items_of}
 use Rattle.report_rows.specs.Inside.SortEntries.{AreEntriesOf, AreEntriesOfParts, EntryForm, coded_form, entry_at, entry_form}
 use Rattle.report_rows.specs.declared.coded_key.CodedKey.{CodedKey}

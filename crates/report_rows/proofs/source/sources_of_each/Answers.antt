@@ -3,7 +3,7 @@ use Rattle.std.specs.Global.{Vec}
 use Rattle.std.proofs.lemmas.List.{get_or-map, length-map}
 use Rattle.query_resolve.specs.Resolution.{contents}
 use Rattle.semantics.specs.Sets.{sets_of}
-use Rattle.report_rows.specs.declared.source.Source.{Source}
+use Rattle.report_rows.specs.declared.source.ValueSource.{ValueSource}
 use Rattle.report_rows.specs.Inside.Sources.{AreSourcesFor, expression_forms}
 use Rattle.report_rows.specs.Sources.{ForEachSet}
 use Rattle.report_rows.proofs.Sources.{each-next}
@@ -21,7 +21,7 @@ loop-set-preserved c =
     let below : i < length (contents sets) = omega (arith, test, n) in
     let is : c.deref.result.now ≡ get_or (contents sets) i [] = c.deref.ensures.value ∙ ap (λ (s : Vec ℕ). s.items) c.set-item.is ∙ sym (get_or-map (λ (s : Vec ℕ). s.items) sets i c.set-item.result [] test) in
     let of : Are (get_or (contents sets) i []) sources.items = subst (λ (set : List ℕ). Are set sources.items) is c.in_ok-sources_of.ensures in
-    subst (λ (all : List (Vec Source)). ForEachSet Are (take (i + 1) (contents sets)) all) (sym c.in_ok-push.ensures.items) (each-next Are (contents sets) c.loop-set.all.items i sources below c.loop-set.invariant of)
+    subst (λ (all : List (Vec ValueSource)). ForEachSet Are (take (i + 1) (contents sets)) all) (sym c.in_ok-push.ensures.items) (each-next Are (contents sets) c.loop-set.all.items i sources below c.loop-set.invariant of)
 
 pub returns : goal.returns
 returns c =

@@ -7,7 +7,7 @@ use Rattle.semantics.specs.Found.{aggregate_functions}
 use Rattle.semantics.specs.Groups.{Row}
 use Rattle.semantics.specs.Records.{refused_lines}
 use Rattle.semantics.specs.Sets.{grouping_places}
-use Rattle.tables_groups.specs.Table.{IsTableOf}
+use Rattle.group_tables.specs.Table.{IsTableOf}
 use Rattle.tables.specs.Functions.{filter_tests}
 use Rattle.tables.specs.Notes.{note_of}
 use Rattle.tables.specs.Partials.{whole_piece}

@@ -1,6 +1,6 @@
 use Rattle.semantics.specs.Sets.{sets_of}
 use Rattle.semantics.specs.Conditions.{is_kept, kept_records}
-use Rattle.tables_groups.proofs.Bags.{bag-filter}
+use Rattle.group_tables.proofs.Bags.{bag-filter}
 use Rattle.semantics.specs.Found.{aggregate_functions}
 use Rattle.tables.proofs.Finding.{found-same}
 use Rattle.tables.proofs.laws.records_law.Goals as goal

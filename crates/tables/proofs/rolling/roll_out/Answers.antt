@@ -2,9 +2,9 @@ use Rattle.std.proofs.Common.{All, List, ℕ, ◌++◌, sym, subst}
 use Rattle.std.proofs.lemmas.List.Elements.{All-append}
 use Rattle.std.specs.List.Sorted.{IsPermutation}
 use Rattle.tables.specs.declared.rolling.SetTable.{SetTable}
-use Rattle.tables_groups.specs.Rolled.{AreAmong}
+use Rattle.group_tables.specs.Rolled.{AreAmong}
 use Rattle.tables.specs.declared.rolling.Roll.{Roll}
-use Rattle.tables.specs.Properties.{HasProperty}
+use Rattle.tables.specs.Inside.Properties.{HasProperty}
 use Rattle.tables.specs.Inside.SetTables.{HaveFiner, HaveProperty, sets_of_rolls, sets_of_tables}
 use Rattle.tables.proofs.SetTables.{WaitsOn}
 use Rattle.tables.proofs.Walking.{finer-left, sets-moved}

@@ -2,7 +2,7 @@ use Rattle.std.proofs.Common.{◌≡◌, ◌++◌, ◌∷◌, All, List, ℕ, sy
 use Rattle.std.proofs.lemmas.List.Elements.{All-push}
 use Rattle.std.specs.List.{Any}
 use Rattle.std.specs.List.Sorted.{IsPermutation}
-use Rattle.tables_groups.specs.Rolled.{AreAmong}
+use Rattle.group_tables.specs.Rolled.{AreAmong}
 use Rattle.tables.specs.declared.rolling.Roll.{Roll}
 use Rattle.tables.proofs.SetTables.{WaitsOn, finer-any, split-left, split-rolled, waits-more}
 use Rattle.tables.proofs.rolling.split_waiting.Goals as goal

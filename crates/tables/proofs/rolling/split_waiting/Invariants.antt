@@ -1,6 +1,6 @@
 use Rattle.std.proofs.Common.{◌++◌, All}
 use Rattle.std.specs.List.Sorted.{IsPermutation}
-use Rattle.tables_groups.specs.Rolled.{AreAmong}
+use Rattle.group_tables.specs.Rolled.{AreAmong}
 use Rattle.tables.specs.declared.rolling.Roll.{Roll}
 use Rattle.tables.proofs.SetTables.{WaitsOn}
 use Rattle.tables.proofs.rolling.split_waiting.Given as goal

@@ -2,7 +2,7 @@ use Rattle.std.proofs.Common.{◌≡◌, ◌∙◌, ◌++◌, ◌∷◌, All, Li
 use Rattle.std.proofs.lemmas.List.Elements.{All-head, All-push, All-tail}
 use Rattle.tables.specs.declared.rolling.Roll.{Roll}
 use Rattle.tables.specs.declared.rolling.SetTable.{SetTable}
-use Rattle.tables.specs.Properties.{HasProperty}
+use Rattle.tables.specs.Inside.Properties.{HasProperty}
 use Rattle.tables.specs.Inside.SetTables.{HaveProperty, sets_of_rolls, sets_of_tables}
 use Rattle.tables.proofs.SetTables.{HasPropertyWhereMade, rolled-table, sets-more}
 use Rattle.tables.proofs.rolling.tables_of_rolls.Goals as goal

@@ -1,6 +1,6 @@
 use Rattle.std.proofs.Common.{◌≡◌, ◌++◌, All, List}
 use Rattle.query_resolve.specs.declared.function.FilteredFunction.{FilteredFunction}
-use Rattle.tables.specs.Properties.{Property}
+use Rattle.tables.specs.Inside.Properties.{Property}
 use Rattle.tables.specs.Inside.SetTables.{HaveProperty, sets_of_rolls, sets_of_tables}
 use Rattle.tables.proofs.SetTables.{HasPropertyWhereMade}
 use Rattle.tables.proofs.rolling.tables_of_rolls.Given as goal

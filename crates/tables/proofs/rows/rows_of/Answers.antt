@@ -5,16 +5,15 @@ use Rattle.query_resolve.specs.Functions.{indexed_functions}
 use Rattle.query_resolve.specs.Resolution.{contents}
 use Rattle.semantics.specs.Sets.{grouping_places, sets_of}
 use Rattle.semantics.specs.Conditions.{kept_records}
-use Rattle.tables_groups.specs.Bags.{SameBag}
+use Rattle.group_tables.specs.Bags.{SameBag}
 use Rattle.semantics.specs.Aggregates.{AggregateFunction}
-use Rattle.tables_groups.specs.Functions.{aggregate_of}
-use Rattle.tables_groups.specs.Fitting.{AreFitting}
-use Rattle.tables_groups.specs.Table.{HasFewRecords, IsTableOf}
-use Rattle.tables_groups.specs.Rolled.{AreAmong}
+use Rattle.group_tables.specs.Functions.{aggregate_of}
+use Rattle.group_tables.specs.Fitting.{AreFitting}
+use Rattle.group_tables.specs.Table.{HasFewRecords, IsTableOf}
+use Rattle.group_tables.specs.Rolled.{AreAmong}
 use Rattle.semantics.specs.Found.{aggregate_functions, query_found}
 use Rattle.tables.specs.Functions.{filter_tests}
-use Rattle.tables.specs.Inside.Properties.{AreGroupsOf}
-use Rattle.tables.specs.Properties.{HasProperty, of_records, of_types}
+use Rattle.tables.specs.Inside.Properties.{AreGroupsOf, HasProperty, of_records, of_types}
 use Rattle.tables.proofs.Bound.{bound-functions}
 use Rattle.tables.proofs.Columns.{functions-columns}
 use Rattle.tables.proofs.Finding.{AreGroupsOfRecords, all-found}

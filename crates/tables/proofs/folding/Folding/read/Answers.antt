@@ -10,7 +10,7 @@ use Rattle.tables.specs.Folding.{valid_records_of}
 use Rattle.semantics.specs.Conditions.{kept_records}
 use Rattle.semantics.specs.Sets.{grouping_places}
 use Rattle.semantics.specs.Aggregates.{AggregateFunction}
-use Rattle.tables_groups.specs.Table.{IsTableOf}
+use Rattle.group_tables.specs.Table.{IsTableOf}
 use Rattle.tables.specs.Functions.{filter_tests}
 use Rattle.tables.proofs.Bound.{bound-functions}
 use Rattle.tables.proofs.Reading.{length-kept_behind, length-refused_of, read-err, read-ok}

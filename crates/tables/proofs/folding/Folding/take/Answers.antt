@@ -1,9 +1,9 @@
 use Rattle.std.proofs.Common.{◌≡◌, ◌++◌, ◌∷◌, [], true, List, cond, map, rules, sym, ap, subst, ◌∙◌}
 use Rattle.semantics.specs.Aggregates.{AggregateFunction}
-use Rattle.tables_groups.specs.Functions.{aggregate_of}
-use Rattle.tables_groups.specs.Rows.{IsNarrowRow}
+use Rattle.group_tables.specs.Functions.{aggregate_of}
+use Rattle.group_tables.specs.Rows.{IsNarrowRow}
 use Rattle.semantics.specs.Groups.{Row}
-use Rattle.tables_groups.specs.Table.{IsTableOf}
+use Rattle.group_tables.specs.Table.{IsTableOf}
 use Rattle.values.specs.Datum.{data_of}
 use Rattle.query_resolve.specs.Functions.{filters_of}
 use Rattle.semantics.specs.Sets.{grouping_places}

@@ -1,7 +1,7 @@
 use Rattle.std.proofs.Common.{List, [], ap, map, refl, sym, subst, arith}
 use Rattle.semantics.specs.Order.{in_order}
 use Rattle.query_resolve.specs.declared.function.FilteredFunction.{FilteredFunction}
-use Rattle.tables_groups.specs.Table.{IsCounted}
+use Rattle.group_tables.specs.Table.{IsCounted}
 use Rattle.tables.specs.Notes.{note_in, note_order}
 use Rattle.tables.specs.declared.piece_refusals.PieceRefusals.{PieceRefusals}
 use Rattle.tables.proofs.Merging.{no-notes}

@@ -1,6 +1,6 @@
 use Rattle.std.proofs.Common.{◌∙◌, List, sym, ap, subst, refl}
 use Rattle.query_resolve.specs.Functions.{indexed_functions}
-use Rattle.tables_groups.specs.Bags.{SameBag}
+use Rattle.group_tables.specs.Bags.{SameBag}
 use Rattle.semantics.specs.Groups.{Row}
 use Rattle.semantics.specs.Found.{Found, query_found}
 use Rattle.tables.specs.Notes.{notes_in}

@@ -4,7 +4,7 @@ use Rattle.std.proofs.Props.{props}
 use Rattle.semantics.specs.Lines.{lines}
 use Rattle.semantics.specs.Order.{in_order}
 use Rattle.semantics.specs.Records.{refused_lines}
-use Rattle.tables_groups.specs.Table.{IsCounted}
+use Rattle.group_tables.specs.Table.{IsCounted}
 use Rattle.query_resolve.specs.declared.function.FilteredFunction.{FilteredFunction}
 use Rattle.semantics.specs.Conditions.{kept_records}
 use Rattle.tables.specs.Folding.{valid_records_of}

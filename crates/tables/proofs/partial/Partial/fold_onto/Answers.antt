@@ -3,9 +3,9 @@ use Rattle.std.proofs.Math.Logic.{∥∥₁_elim, ∥∥₁_map}
 use Rattle.std.proofs.Props.{props}
 use Rattle.std.proofs.lemmas.List.{map-append}
 use Rattle.semantics.specs.Lines.{lines}
-use Rattle.tables_groups.specs.Bags.{SameBag}
+use Rattle.group_tables.specs.Bags.{SameBag}
 use Rattle.semantics.specs.Groups.{Row}
-use Rattle.tables_groups.specs.Table.{IsCounted, IsTableOf}
+use Rattle.group_tables.specs.Table.{IsCounted, IsTableOf}
 use Rattle.query_resolve.specs.declared.function.FilteredFunction.{FilteredFunction}
 use Rattle.semantics.specs.Sets.{grouping_places}
 use Rattle.semantics.specs.Conditions.{kept_records}

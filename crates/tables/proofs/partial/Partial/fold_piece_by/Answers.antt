@@ -3,9 +3,9 @@ use Rattle.semantics.specs.Lines.{lines}
 use Rattle.semantics.specs.Sets.{grouping_places}
 use Rattle.semantics.specs.Conditions.{kept_records}
 use Rattle.tables.specs.Folding.{valid_records_of}
-use Rattle.tables_groups.specs.Bags.{SameBag}
+use Rattle.group_tables.specs.Bags.{SameBag}
 use Rattle.semantics.specs.Groups.{Row}
-use Rattle.tables_groups.specs.Table.{IsCounted, IsTableOf}
+use Rattle.group_tables.specs.Table.{IsCounted, IsTableOf}
 use Rattle.query_resolve.specs.declared.function.FilteredFunction.{FilteredFunction}
 use Rattle.tables.specs.Notes.{Noted, note_in, note_of}
 use Rattle.semantics.specs.Found.{aggregate_functions}

@@ -1,6 +1,6 @@
 use Rattle.std.proofs.Common.{◌≡◌, ◌+◌, ◌<◌, ◌≤◌, ◌^◌, [], ◌∷◌, ◌++◌, List, All, map, refl, sym, ap, subst, ◌∙◌, arith}
 use Rattle.semantics.specs.Order.{in_order}
-use Rattle.tables_groups.specs.Table.{IsCounted, both_tables}
+use Rattle.group_tables.specs.Table.{IsCounted, both_tables}
 use Rattle.tables.specs.Notes.{note_in, note_order, notes_in}
 use Rattle.tables.specs.Partials.{HasOwnIndexes, concatenation, note_of_one}
 use Rattle.tables.specs.declared.piece_refusals.PieceRefusals.{PieceRefusals}

@@ -1,11 +1,10 @@
-use Rattle.std.proofs.Common.{◌≡◌, ◌+◌, ◌<◌, ◌^◌, ◌++◌, All, map, refl, sym, ap, subst, ◌∙◌, arith}
+use Rattle.std.proofs.Common.{◌≡◌, ◌+◌, ◌<◌, ◌^◌, ◌++◌, All, map, refl, sym, ap, subst, ◌∙◌, sum_by, arith}
+use Rattle.std.proofs.lemmas.List.Sums.{sum_by-append}
 use Rattle.std.proofs.lemmas.List.{map-append}
 use Rattle.std.proofs.lemmas.List.Elements.{All-append}
 use Rattle.semantics.specs.Order.{in_order}
-use Rattle.tables_groups.specs.Bags.{weigh}
-use Rattle.tables_groups.specs.Table.{IsCounted}
-use Rattle.tables_groups.proofs.Bags.{weigh-append}
-use Rattle.tables_groups.proofs.Sorting.{weigh-in_order}
+use Rattle.group_tables.specs.Table.{IsCounted}
+use Rattle.group_tables.proofs.Sorting.{sum_by-in_order}
 use Rattle.tables.specs.Laws.{notes-same}
 use Rattle.tables.specs.Notes.{IsWellNumbered, line_count, note_in, note_order, notes_in}
 use Rattle.tables.specs.Partials.{both}
@@ -57,10 +56,10 @@ returns g c =
     let joined : notes_in c.append.new.self ≡ notes_in a.notes ++ notes_in b.notes = ap (map note_in) c.in_ok-append.ensures.items ∙ map-append note_in a.notes.items b.notes.items in
     both-from (partial.the_view a) (partial.the_view b) _ refl refl refl c.in_ok-merged.ensures.merged refl refl
     (notes-same (notes_in c.append.new.self) (in_order note_order (notes_in a.notes) ++ in_order note_order (notes_in b.notes)) (λ w.
-    let all = ap (weigh w) joined in
-    let apart = weigh-append w (notes_in a.notes) (notes_in b.notes) in
-    let both = weigh-append w (in_order note_order (notes_in a.notes)) (in_order note_order (notes_in b.notes)) in
-    let first = weigh-in_order note_order w (notes_in a.notes) in
-    let second = weigh-in_order note_order w (notes_in b.notes) in
+    let all = ap (sum_by w) joined in
+    let apart = sum_by-append w (notes_in a.notes) (notes_in b.notes) in
+    let both = sum_by-append w (in_order note_order (notes_in a.notes)) (in_order note_order (notes_in b.notes)) in
+    let first = sum_by-in_order note_order w (notes_in a.notes) in
+    let second = sum_by-in_order note_order w (notes_in b.notes) in
     omega (arith, all, apart, both, first, second)))
     ∙ (λ i. both (c.self.view_is i) (c.other.view_is i))

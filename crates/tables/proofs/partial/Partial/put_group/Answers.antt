@@ -1,8 +1,8 @@
 use Rattle.std.proofs.Common.{◌≡◌, ◌+◌, ◌++◌, List, [], ◌∷◌, ap, subst, sym, ◌∙◌, arith}
-use Rattle.group_states.specs.States.{entry_of}
+use Rattle.values.specs.GroupStates.{entry_of}
 use Rattle.query_resolve.specs.declared.function.FilteredFunction.{FilteredFunction}
 use Rattle.semantics.specs.Sets.{grouping_places}
-use Rattle.tables_groups.specs.Entries.{CountsEntry, IsBehind, IsEntryFor, TypesEntry}
+use Rattle.group_tables.specs.Entries.{CountsEntry, IsBehind, IsEntryFor, TypesEntry}
 use Rattle.values.specs.Datum.{data_of}
 use Rattle.tables.specs.Contents.{HasMembersWithin, groups_in}
 use Rattle.tables.specs.Sound.{IsSoundUnder}

@@ -24,7 +24,7 @@ invariant_of-result g c =
       (
         (let n = c.len-count.ensures in let fewer = c.requires.fewer in let ok = c.args.refused.ok in grind (arith, n, fewer, ok)),
         (
-          counted-more functions 0 c.args.lines table (omega arith) (empty-counted functions table c.in_ok-table.ensures.none),
+          counted-more functions 0 c.args.lines table (omega arith) (empty-counted functions table c.in_ok-table.ensures),
           (
             notes.0,
             (notes.1, tt),
@@ -40,7 +40,7 @@ returns-clause-sound g c =
       sets = c.in_ok-shape.ensures.sets;
       functions = c.in_ok-shape.ensures.functions;
       filters = c.in_ok-shape.ensures.filters;
-      typed = empty-typed plan.fields (grouping_places plan.fields plan.query) (indexed_functions plan.fields plan.query) c.in_ok-table.table c.in_ok-table.ensures.none;
+      typed = empty-typed plan.fields (grouping_places plan.fields plan.query) (indexed_functions plan.fields plan.query) c.in_ok-table.table c.in_ok-table.ensures;
     }
 
 pub returns-clause-refusals : goal.returns-clause-refusals
@@ -51,7 +51,7 @@ returns-clause-refusals g c = record {
 }
 
 pub returns-clause-groups : goal.returns-clause-groups
-returns-clause-groups g c = empty-entries c.in_ok-table.table c.in_ok-table.ensures.none
+returns-clause-groups g c = empty-entries c.in_ok-table.table c.in_ok-table.ensures
 
 pub returns-clause-within : goal.returns-clause-within
-returns-clause-within g c = empty-counted c.in_ok-shape.shape.functions.items c.in_ok-table.table c.in_ok-table.ensures.none
+returns-clause-within g c = empty-counted c.in_ok-shape.shape.functions.items c.in_ok-table.table c.in_ok-table.ensures

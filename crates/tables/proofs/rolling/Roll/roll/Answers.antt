@@ -1,10 +1,10 @@
 use Rattle.std.proofs.Common.{IfSome, List, ℕ, Option, refl, sym, subst}
 use Rattle.std.proofs.lemmas.Result.{IfOk-weaker}
-use Rattle.tables_groups.specs.Table.{Contents}
-use Rattle.tables_groups.specs.Rolled.{AreAmong}
-use Rattle.tables.specs.SetTables.{IsRolledOutOf}
+use Rattle.group_tables.specs.Table.{Contents}
+use Rattle.group_tables.specs.Rolled.{AreAmong}
+use Rattle.tables.specs.Inside.SetTables.{IsRolledOutOf}
 use Rattle.tables.proofs.SetTables.{roll-kept, some-of_ok}
-use Rattle.tables.specs.Properties.{HasProperty}
+use Rattle.tables.specs.Inside.Properties.{HasProperty}
 use Rattle.tables.proofs.rolling.Roll.roll.Goals as goal
 
 pub roll-rolled-requires-clause-among : goal.roll-rolled-requires-clause-among

@@ -1,16 +1,16 @@
 use Rattle.std.proofs.Common.{Bool, List, [], ◌∷◌, length, arith}
 use Rattle.std.proofs.lemmas.List.{length-map}
-use Rattle.tables_groups.specs.Functions.{aggregate_of}
+use Rattle.group_tables.specs.Functions.{aggregate_of}
 use Rattle.semantics.specs.Groups.{Row, value_at}
 use Rattle.semantics.specs.Aggregates.{is_present}
-use Rattle.tables_groups.proofs.Meaning.{table-within, within-can_join}
+use Rattle.group_tables.proofs.Meaning.{table-within, within-can_join}
 use Rattle.test_libraries.proofs.tests.grouping.joined_groups.Goals as goal
 
 abbrev filters : List (Row → Bool)
 filters = (λ row. is_present (value_at 1 row)) ∷ []
 
-pub absorb-requires : goal.absorb-requires
-absorb-requires c =
+pub absorb-requires-clause-join : goal.absorb-requires-clause-join
+absorb-requires-clause-join c =
     let a = c.in_ok-table.ensures in
     let b = c.in_ok-other.ensures in
     let set = c.args.set.now in

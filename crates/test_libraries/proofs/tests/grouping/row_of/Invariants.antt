@@ -1,5 +1,5 @@
 use Rattle.values.specs.Datum.{data_of}
-use Rattle.tables_groups.specs.Rows.{IsNarrowRow}
+use Rattle.group_tables.specs.Rows.{IsNarrowRow}
 use Rattle.test_libraries.proofs.tests.grouping.row_of.Given as goal
 
 abbrev pub invariant-loop-field : goal.invariant-loop-field

@@ -1,8 +1,8 @@
 use Rattle.std.proofs.Common.{◌≡◌, ◌∷◌, [], List, length, map}
-use Rattle.tables_groups.specs.Functions.{aggregate_of}
+use Rattle.group_tables.specs.Functions.{aggregate_of}
 use Rattle.semantics.specs.Groups.{Row, value_at}
 use Rattle.semantics.specs.Aggregates.{is_present}
-use Rattle.tables_groups.specs.Table.{IsTableOf}
+use Rattle.group_tables.specs.Table.{IsTableOf}
 use Rattle.test_libraries.proofs.tests.grouping.table_of.Given as goal
 
 -- the table of as many records as were taken

@@ -1,7 +1,7 @@
 use Rattle.std.proofs.Common.{◌-◌, ◌^◌, Bool, List, [], ◌∷◌, arith}
 use Rattle.semantics.specs.Groups.{Row, value_at}
 use Rattle.semantics.specs.Aggregates.{is_present}
-use Rattle.tables_groups.proofs.Counted.{records-counted}
+use Rattle.group_tables.proofs.Counted.{records-counted}
 use Rattle.test_libraries.proofs.tests.grouping.table_of_few.Goals as goal
 
 abbrev filters : List (Row → Bool)

@@ -1,5 +1,5 @@
 use Rattle.std.proofs.Common.{subst}
-use Rattle.tables_groups.specs.Rolled.{AreAmong}
+use Rattle.group_tables.specs.Rolled.{AreAmong}
 use Rattle.test_partials.proofs.tests.rolling.are_grouping_columns.Goals as goal
 
 pub returns : goal.returns

@@ -1,0 +1,17 @@
+-- Seeds of hashes.
+use Rattle.std.specs.Prelude.{⊤}
+use Rattle.std.specs.declared.hash.DefaultHasher.{DefaultHasher}
+use Rattle.std.specs.Hash.DefaultHasher.{initial}
+use Rattle.std.specs.RandomState as random
+use Rattle.group_tables.specs.declared.hashing.HashSeed.{HashSeed}
+use Rattle.group_tables.specs.declared.hashing.HashSeed.TheVariants as seed
+
+-- the hasher that a seed begins with
+abbrev pub initial_hasher : HashSeed → DefaultHasher
+initial_hasher seed.Fixed = initial
+initial_hasher (seed.Random state) = random.initial_hasher state
+
+-- the seed is not the fixed one
+abbrev pub IsDrawn : HashSeed → Type 0
+IsDrawn seed.Fixed = ⊥
+IsDrawn (seed.Random state) = ⊤

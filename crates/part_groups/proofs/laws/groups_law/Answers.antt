@@ -1,6 +1,0 @@
-use Rattle.part_groups.proofs.Again.{groups-again, texts-again}
-use Rattle.part_groups.proofs.Read.{groups-read, texts-have}
-use Rattle.part_groups.proofs.laws.groups_law.Goals as goal
-
-pub returns : goal.returns
-returns c = record { again = groups-again; read = groups-read; texts = texts-again c.text_law.ensures.same; values = texts-have c.text_law.ensures.again }

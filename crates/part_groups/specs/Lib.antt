@@ -1,4 +1,0 @@
-pub mod Groups
-pub mod Reading
-pub mod Known
-pub mod Inside

@@ -1,2 +1,0 @@
--- What contracts of private calls alone say: no contract of a public call rests on it.
-pub mod Reading

@@ -1,8 +1,0 @@
-use Rattle.std.proofs.Common.{◌≡◌, ◌++◌, map}
-use Rattle.tables_groups.specs.Inside.Accumulator.{state_in, summary}
-use Rattle.tables_groups.specs.Cells.{summary_of}
-use Rattle.tables_groups.proofs.accumulators.cells_of.Given as goal
-
--- the values so far, and then those of the accumulators that are left
-abbrev pub invariant-loop-part : goal.invariant-loop-part
-invariant-loop-part l = map summary_of l.cells.items ++ map (λ part. summary l.fn.lines (state_in part)) l.part-iterator.rest.items ≡ map (λ part. summary l.fn.lines (state_in part)) l.fn.parts.items

@@ -1,9 +1,0 @@
-use Rattle.std.proofs.Common.{◌≡◌, ◌++◌, map}
-use Rattle.group_states.specs.States.{states_of}
-use Rattle.tables_groups.specs.Inside.Accumulator.{state_in}
-use Rattle.tables_groups.specs.Entries.{plain_state}
-use Rattle.tables_groups.proofs.accumulators.plain_states.Given as goal
-
--- the states so far, and then those of the accumulators that are left
-abbrev pub invariant-loop-part : goal.invariant-loop-part
-invariant-loop-part l = states_of l.states.items ++ map (λ part. plain_state (state_in part)) l.part-iterator.rest.items ≡ map (λ part. plain_state (state_in part)) l.fn.parts.items

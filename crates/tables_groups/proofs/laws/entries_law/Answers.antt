@@ -1,8 +1,0 @@
-use Rattle.tables_groups.proofs.EntriesLaw.{is-table, of-records}
-use Rattle.tables_groups.proofs.laws.entries_law.Goals as goal
-
-pub returns : goal.returns
-returns c = record {
-  of_records = of-records;
-  is_table = is-table;
-}

@@ -1,8 +1,0 @@
-use Rattle.std.proofs.Common.{◌≡◌, ◌++◌, map}
-use Rattle.tables_groups.specs.Inside.Keyed.{keyed_at, keyed_entry}
-use Rattle.tables_groups.specs.Shards.{entries_in}
-use Rattle.tables_groups.proofs.plain_entries.put_entries.Given as goal
-
--- the groups so far, and then those that are left
-abbrev pub invariant-loop-key : goal.invariant-loop-key
-invariant-loop-key l = map keyed_entry l.keyed.items ++ map keyed_at l.key-iterator ≡ map keyed_entry l.fn.keyed.items ++ map keyed_at (entries_in l.fn.shard)

@@ -1,7 +1,0 @@
-use Rattle.std.proofs.Common.{sym}
-use Rattle.tables_groups.specs.Inside.ValueSets.{listed}
-use Rattle.tables_groups.proofs.Sets.{held-insert}
-use Rattle.tables_groups.proofs.value_set.ValueSet.insert_copy.Goals as goal
-
-pub returns-then-contains : goal.returns-then-contains
-returns-then-contains c = held-insert (listed c.args.self.now) c.args.value.now (sym c.if-contains.ensures)
