@@ -50,21 +50,21 @@ abbrev pub total : List ℤ → ℤ
 total [] = pos 0
 total (n ∷ ns) = n +ℤ total ns
 
--- The sum of whole numbers, and NULL of none.
+-- The sum of whole numbers; NULL if there are none.
 abbrev pub sum_of : List ℤ → Datum
 sum_of [] = null
 sum_of (n ∷ ns) = whole (total (n ∷ ns))
 
--- The average of whole numbers as the pair of their sum and their count, and NULL of none.
+-- The average of whole numbers, as the pair of their sum and their count; NULL if there are none.
 abbrev pub average_of : List ℤ → Summary
 average_of [] = plain null
 average_of (n ∷ ns) = ratio (total (n ∷ ns)) (length (n ∷ ns))
 
--- A value of the list that no other is below, and NULL of none.
+-- A value of the list that no other is below; NULL if the list is empty.
 abbrev pub least : List Datum → Datum
 least xs = unwrap_or (find (λ x. list_all (λ y. not (is_lt (value_order y x))) xs) xs) null
 
--- A value of the list that no other is above, and NULL of none.
+-- A value of the list that no other is above; NULL if the list is empty.
 abbrev pub greatest : List Datum → Datum
 greatest xs = unwrap_or (find (λ x. list_all (λ y. not (is_gt (value_order y x))) xs) xs) null
 

@@ -1,4 +1,4 @@
--- The columns that a schema text names: parts `name:type` between commas.
+-- The columns of a schema text: parts `name:type`, with commas between them.
 use Rattle.std.specs.List.{after_first, before_first, enumerate_from, filter_map, list_any, slice_split}
 use Rattle.std.specs.Option.{is_none}
 use Rattle.std.specs.Prelude.{◌==◌, ℕ, ◌+◌, nat_lt, not, List, [], ◌∷◌, length, take, map, Option, Some, None, option_map, Result, Ok, Err, codes, if◌then◌else◌}
@@ -20,7 +20,7 @@ names_of fields = map (λ f. f.name) fields
 
 -- ---- parts
 
--- The type that a text names, where it names one.
+-- The type of this name, if there is one.
 abbrev pub kind_named : List ℕ → Option Kind
 kind_named text =
     if bytes_eq text (codes "int") then Some kind.Int
@@ -28,24 +28,25 @@ kind_named text =
     else if bytes_eq text (codes "bool") then Some kind.Bool
     else None
 
--- What stands between the commas of a text.
+-- The parts of a text between its commas.
 abbrev pub parts : List ℕ → List (List ℕ)
 parts text = slice_split (λ c. c == 44) text
 
--- What stands before the first colon of a part, or all of it.
+-- What stands before the first colon of a part; all of it if there is no colon.
 abbrev pub name_of : List ℕ → List ℕ
 name_of part = before_first (λ c. c == 58) part
 
--- The type that is named behind the first colon of a part; behind no colon nothing is named.
+-- The type that is named after the first colon of a part; None if there is no colon or no such
+-- type.
 abbrev pub kind_of : List ℕ → Option Kind
 kind_of part = kind_named (after_first (λ c. c == 58) part)
 
--- The column that a part writes, where it names a type.
+-- The column that a part declares, if it names a type.
 abbrev pub column_of : List ℕ → Option Field
 column_of part = option_map (λ k. record { name = name_of part; kind = k }) (kind_of part)
 
--- The fault of a part behind parts of these names: the first of these four that it has. The name of
--- a column is a word, reserved ones among them.
+-- The fault of a part that follows parts of these names: the first of these four that it has. The
+-- name of a column is any word, a reserved one too.
 abbrev pub fault_of : List (List ℕ) → List ℕ → Option SchemaFault
 fault_of names part =
     let number = length names + 1 in
@@ -55,13 +56,14 @@ fault_of names part =
     else if list_any (bytes_eq (name_of part)) names then Some (RepeatedName number)
     else None
 
--- The faults of all parts, from the left, each behind the parts before it.
+-- The faults of all parts, from left to right. Each part is judged by the names of the parts
+-- before it.
 abbrev pub faults : List (List ℕ) → List SchemaFault
 faults all = filter_map (λ p. fault_of (map name_of (take p.0 all)) p.1) (enumerate_from 0 all)
 
 -- ---- the text
 
--- The first of some faults, or these columns where there is none.
+-- These columns, or the first fault if there is any.
 abbrev pub unless_faulty : List SchemaFault → List Field → Result (List Field) SchemaFault
 unless_faulty [] fields = Ok fields
 unless_faulty (first ∷ more) fields = Err first

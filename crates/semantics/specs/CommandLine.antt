@@ -57,7 +57,8 @@ command = fold with_rule (record (new_app (codes "jlreport")) { top = record (ne
 abbrev pub value_of : Text → List Text → Option Text
 value_of name words = first_of name (matches_of command words)
 
--- The number that its first value writes, where it has one.
+-- The number that the first value of the argument writes, as the parser of its option reads it;
+-- None if it has no value.
 abbrev pub IsNumberOf : Text → List Text → Option ℕ → Type 0
 IsNumberOf name words = IsNumberIn (one_of name (matches_of command words))
 

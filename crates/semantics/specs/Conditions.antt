@@ -15,11 +15,12 @@ use Rattle.semantics.specs.declared.literal.Literal.TheVariants as constant
 
 -- ---- truth values
 
--- A test that is never unknown, as p IS TRUE and x IS NULL (<boolean test>, <null predicate>).
+-- The truth value of a test that is never Unknown, such as p IS TRUE and x IS NULL (<boolean
+-- test>, <null predicate>).
 abbrev pub known_truth : Bool → Truth
 known_truth b = if b then True else False
 
--- With NOT, where it is written.
+-- The truth value, negated if NOT is written.
 abbrev pub with_not : Bool → Truth → Truth
 with_not true t = negation t
 with_not false t = t
@@ -100,8 +101,8 @@ record_value fields values (name n) = column_value fields values n
 record_value fields values (grouping ns) = null
 record_value fields values (function f) = null
 
--- The truth value of a WHERE or a FILTER for a record: in both names are columns, and it is True
--- where none is written.
+-- The truth value of a WHERE or of a FILTER for a record; names are columns in both. It is True
+-- if the clause is not written.
 abbrev pub where_truth : List Field → Option PredicateForm → List Datum → Truth
 where_truth fields p values = option_map_or (truth (record_value fields values)) p True
 

@@ -37,15 +37,15 @@ grouped_faults fields groups n =
 
 -- ---- types
 
--- Whether two types are one.
+-- Whether two types are the same.
 abbrev pub same_kind : Kind → Kind → Bool
 same_kind kind.Int kind.Int = true
 same_kind kind.Text kind.Text = true
 same_kind kind.Bool kind.Bool = true
 same_kind k l = false
 
--- The types of two operands are not one. Where one has no type, as AVG and a name without a column,
--- they are not.
+-- The types of two operands are not the same. They count as different if one has no type, as AVG
+-- and a name that is no column.
 abbrev pub agreement_faults : Option Kind → Option Kind → List QueryFault
 agreement_faults (Some k) (Some l) = unless (same_kind k l) TypesDisagree
 agreement_faults k l = TypesDisagree ∷ []

@@ -1,5 +1,5 @@
--- What the grouping sets of a query find in the records of an input: each group, with the values of
--- the set functions over its members (ISO/IEC 9075-2, <group by clause>).
+-- The result rows of a query before HAVING: a row for each group of each grouping set, with the
+-- values of the set functions over the members of the group (ISO/IEC 9075-2, <group by clause>).
 use Rattle.std.specs.Prelude.{ℕ, List, length, map, [], slice_index_or, option_map}
 use Rattle.semantics.specs.Aggregates.{AggregateFunction, Summary, agg}
 use Rattle.semantics.specs.Columns.{Field}
@@ -10,7 +10,7 @@ use Rattle.semantics.specs.SetFunctions.{functions_of}
 use Rattle.semantics.specs.Sets.{sets_of}
 use Rattle.semantics.specs.Syntax.{TreeForm}
 
--- What is shown of a group: its key, the number of its members, and the value of each set function
+-- What a row has of its group: the key, the number of members, and the value of each set function
 -- over them.
 pub record GroupSummary : Type 0 where
   pub key : Key
@@ -21,7 +21,8 @@ pub record GroupSummary : Type 0 where
 abbrev pub group_summary : List AggregateFunction → Key → List Row → GroupSummary
 group_summary functions key rows = record { key = key; lines = length rows; cells = map (λ f. agg f rows) functions }
 
--- The index of a grouping set in the list of sets, beside what is shown of one of its groups.
+-- A row: the index of a grouping set in the list of sets, and what it has of one of the groups of
+-- that set.
 abbrev pub Found : Type 0
 Found = ℕ × GroupSummary
 
@@ -37,14 +38,14 @@ aggregate_function fields f = record { function = f.function; filter = option_ma
 abbrev pub aggregate_functions : List Field → TreeForm → List AggregateFunction
 aggregate_functions fields q = map (aggregate_function fields) (functions_of fields q)
 
--- What is shown of a group.
+-- The row of a group.
 abbrev pub found_group : List AggregateFunction → SetGroup → Found
 found_group functions group = (group.index, group_summary functions group.key group.members)
 
--- What is shown of all groups of a list of records.
+-- The rows of all groups of a list of records.
 abbrev pub all_found : List (List ℕ) → List AggregateFunction → List Row → List Found
 all_found sets functions rows = map (found_group functions) (groups sets rows)
 
--- What the grouping sets of a query find in the records that its WHERE keeps.
+-- The rows of a query over a list of records, of which its WHERE keeps some.
 abbrev pub query_found : List Field → TreeForm → List Row → List Found
 query_found fields q rows = all_found (sets_of fields q) (aggregate_functions fields q) (kept_records fields q rows)

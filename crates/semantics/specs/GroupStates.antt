@@ -40,8 +40,9 @@ state_over (function.Min place) records = extreme (least (column_values place re
 state_over (function.Max place) records = extreme (greatest (column_values place records))
 state_over (function.Avg place) records = summed (total (column_numbers place records)) (length (column_numbers place records))
 
--- So it is without a FILTER, but that nothing is kept of COUNT(*), since the number of members says it;
--- and with a FILTER over the records that it keeps.
+-- What is kept for a set function with or without a FILTER: with one, over the records that it
+-- keeps. Of COUNT(*) without one nothing is kept, since it is the number of members, which the
+-- group has.
 abbrev pub state_by : Option (Row → Bool) → ColumnFunction → List Row → FunctionState
 state_by None function.CountRows records = rows
 state_by None f records = state_over f records

@@ -28,13 +28,13 @@ project set row = map (λ place. value_at place row) set
 abbrev pub key_order : Key → Key → Ordering
 key_order = slice_cmp value_order
 
--- Two keys are the same where neither is before the other: they are as long and their values are
--- the same, NULL and NULL too.
+-- Two keys are the same if neither is before the other: they are equally long, and their values
+-- are the same, NULL being the same as NULL.
 abbrev pub same_key : Key → Key → Bool
 same_key k l = eq_by_cmp key_order k l
 
--- The keys of a list of records under a grouping set, of those that are the same one; the empty set
--- has the one empty key, also over no records.
+-- The different keys of a list of records under a grouping set. The empty set has exactly one
+-- key, the empty one, even over no records.
 abbrev pub keys : List ℕ → List Row → List Key
 keys [] rows = [] ∷ []
 keys (place ∷ places) rows = distinct same_key (map (project (place ∷ places)) rows)

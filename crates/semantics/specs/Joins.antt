@@ -42,7 +42,7 @@ pub record IsPartialRun (result : Result Done RunFault) (limit : Option ℕ) (fi
 
 -- ---- of parts
 
--- What is given is the parts of these inputs, one behind the other.
+-- The bytes that are given are the parts of these inputs, one after the other.
 abbrev pub ArePartsOf : List Field → TreeForm → List (List ℕ) → Option (List ℕ) → Type 0
 ArePartsOf fields q inputs given = given ≡ Some (flat_map (part_text fields q) inputs)
 
@@ -60,9 +60,11 @@ run_answer (Ok done) = Some (Ok done)
 run_answer (Err (Run fault)) = Some (Err fault)
 run_answer (Err (Parts fault)) = None
 
--- A join of parts answers and writes what a run over their inputs does, one behind the other, unless
--- it answers a fault of the parts, which it does of no parts that can be joined; whatever is given, it
--- does what a run over some input might; and where it answers a fault of the parts, nothing was written.
+-- What a join of parts answers and writes. If the parts of some inputs are given, it answers and
+-- writes what a run over these inputs, one after the other, may, or it answers a fault of the
+-- parts (is_run); that it never does if the parts can be joined (takes). Whatever is given, what
+-- it answers and leaves is what a run may answer and leave (is_some_run). After a fault of the
+-- parts nothing was written (keeps).
 pub record IsJoin (result : Result Done JoinFault) (limit : Option ℕ) (fields : List Field) (q : TreeForm) (given out_old out_new err_old err_new : Option (List ℕ)) : Type 0 where
   pub is_run : (inputs : List (List ℕ)) → ArePartsOf fields q inputs given
       → IfSome (run_answer result) (λ answer. IsRun answer limit fields q (Some (concatenated inputs)) out_old out_new err_old err_new)

@@ -33,7 +33,7 @@ pub record Limits : Type 0 where
 abbrev pub standard : Limits
 standard = record { items = 64; arguments = 8; literals = 64; levels = 64; sets = 16 }
 
--- What derives a value from the tokens in front of others.
+-- A relation that derives a value from the first of some tokens, with those that follow them.
 abbrev pub Derivation : Type 0 → Type 1
 Derivation A = List Token → A → List Token → Type 0
 

@@ -57,7 +57,8 @@ filter_of (over_filtered a p) = Some p
 
 -- ---- set functions by places of columns
 
--- A set function with the place of its column, apart from its FILTER.
+-- A set function, without its FILTER, with the position of its column in place of the column's
+-- name; None if no column has that name.
 abbrev pub column_function : List Field → Aggregate → Option ColumnFunction
 column_function fields aggregate.CountRows = Some at.CountRows
 column_function fields (aggregate.Count x) = option_map at.Count (place_of fields x)

@@ -25,12 +25,12 @@ grouping_values fields t found = map (value_in (set_of fields t found) found.1.k
 abbrev pub key_value : List Field → TreeForm → Found → KeyForm → Datum
 key_value fields t row k = row_value fields t row (key_expression t.items k.expression)
 
--- How NULL stands to a value that is not NULL: it is first or last (<null ordering>).
+-- How NULL compares with a value that is not NULL: it is first or last (<null ordering>).
 abbrev pub null_order : Bool → Ordering
 null_order nulls_first = if nulls_first then Less else Greater
 
--- How two values stand to each other under a key. Those that are not NULL ascend, and under DESC it
--- is the other way round.
+-- How two values compare under a key. NULL is first or last, as the key says, whatever its
+-- direction; other values ascend, or descend under DESC.
 abbrev pub under_key : KeyForm → Datum → Datum → Ordering
 under_key k a b =
     if is_null a then (if is_null b then Equal else null_order k.nulls_first)
@@ -38,16 +38,16 @@ under_key k a b =
     else if k.descending then ordering_reverse (value_order a b)
     else value_order a b
 
--- How two rows stand to each other under keys: as under the first that tells them apart.
+-- How two rows compare under keys: as under the first key that tells them apart.
 abbrev pub under_keys : List Field → TreeForm → List KeyForm → Found → Found → Ordering
 under_keys fields t [] x y = Equal
 under_keys fields t (k ∷ ks) x y = ordering_then (under_key k (key_value fields t x k) (key_value fields t y k)) (under_keys fields t ks x y)
 
 -- ---- rows in order
 
--- How two rows stand to each other: by the keys of ORDER BY, then by the index of their grouping
--- set, and in one set by what they show for the grouping columns, from the first; these ascend, and
--- NULL is last.
+-- How two rows compare: by the keys of ORDER BY, then by the index of their grouping set, and
+-- within one set by their values in the grouping columns, from the first; these ascend, and NULL
+-- is last.
 abbrev pub before : List Field → TreeForm → Found → Found → Ordering
 before fields t x y =
     ordering_then (under_keys fields t t.keys x y)
@@ -55,12 +55,13 @@ before fields t x y =
 
 -- ---- a list in order
 
--- A list with one thing more, which stands in front of the first that is not before it.
+-- The list with x in it, in front of the first element that is not before x.
 abbrev pub insertion : {X : Type 0} → (X → X → Ordering) → X → List X → List X
 insertion order x [] = x ∷ []
 insertion order x (y ∷ ys) = if is_gt (order x y) then y ∷ insertion order x ys else x ∷ y ∷ ys
 
--- The things of a list in order.
+-- The list in order. It does not matter how it is sorted: `order_law` of report_rows says that no
+-- other list has the same rows and ascends.
 abbrev pub in_order : {X : Type 0} → (X → X → Ordering) → List X → List X
 in_order order [] = []
 in_order order (x ∷ xs) = insertion order x (in_order order xs)

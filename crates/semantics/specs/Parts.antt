@@ -42,7 +42,7 @@ text_of values = flat_map line_of values
 
 -- ---- groups as values
 
--- A count is a whole number.
+-- A count, as a list of one value.
 abbrev pub count_values : ℕ → List Datum
 count_values n = whole (pos n) ∷ []
 
@@ -104,7 +104,7 @@ contents_over fields q input = record {
   groups = entries_over (grouping_places fields q) (aggregate_functions fields q) (kept_records fields q (valid_records fields input));
 }
 
--- A number of things is a whole number.
+-- A count, as a value.
 abbrev pub number : ℕ → Datum
 number n = whole (pos n)
 
@@ -127,15 +127,15 @@ front_of columns query fields lines refused groups =
     ++ number groups
     ∷ []
 
--- So it is under columns and a query.
+-- The same for columns and a query, by their texts.
 abbrev pub front_values : List Field → TreeForm → (lines : ℕ) → List (ℕ × LineFault) → (groups : ℕ) → List Datum
 front_values fields q lines refused groups = front_of (columns_text fields) (canonical_text q) fields lines refused groups
 
--- The values of a part with these contents, but for the last one.
+-- The values of a part with these contents, all but the checksum at its end.
 abbrev pub values_with : List Field → TreeForm → ContentsForm → List Datum
 values_with fields q contents = front_values fields q contents.lines contents.refused (length contents.groups) ++ groups_values contents.groups
 
--- Those of the part of an input.
+-- The same for the part of an input.
 abbrev pub part_values : List Field → TreeForm → List ℕ → List Datum
 part_values fields q input = values_with fields q (contents_over fields q input)
 

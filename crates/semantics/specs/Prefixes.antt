@@ -19,16 +19,17 @@ pub record Begins (front : List Token) : Type 0 where
   pub limits : Limits
   pub within : BeginsWithin limits front
 
--- These tokens keep the limits of the language: they begin a query within them, or those before a
--- comma or the word FILTER at their end do. What may be too much stands behind these two.
+-- These tokens keep the limits of the language: they begin a query within them. A comma or the
+-- word FILTER at their end does not count: what follows it may be too much, and it is not too
+-- much itself.
 pub data KeepsLimits : List Token → Type 0 where
   begins : {front : List Token} → BeginsWithin standard front → KeepsLimits front
   comma : {front : List Token} → BeginsWithin standard front → KeepsLimits (front ++ tokens.Sign s.Comma ∷ [])
   filter : {front : List Token} → BeginsWithin standard front → KeepsLimits (front ++ tokens.Word w.Filter ∷ [])
 
--- The token at this place, from 0, continues no query, or behind the last token the end does not.
--- The tokens before it begin a query and keep the limits; with it they begin none, and all of the
--- tokens are none, whatever the limits.
+-- The token at this position, from 0, is unexpected; at the position after the last token, it is
+-- the end that is. The tokens before it begin a query and keep the limits. With it they begin no
+-- query, and all tokens together are no query, whatever the limits.
 pub record IsUnexpected (ts : List Token) (place : ℕ) : Type 0 where
   pub inside : place ≤ length ts
   pub begins : Begins (take place ts)
@@ -36,7 +37,7 @@ pub record IsUnexpected (ts : List Token) (place : ℕ) : Type 0 where
   pub continues_none : place < length ts → Begins (take (place + 1) ts) → ⊥
   pub derives_none : (limits : Limits) (q : TreeForm) → DerivesWithin limits ts q → ⊥
 
--- It is too much: some tokens in front begin a query, and do not keep the limits.
+-- There is too much: some of the first tokens begin a query and do not keep the limits.
 pub record IsOverLimit (ts : List Token) : Type 0 where
   pub place : ℕ
   pub inside : place ≤ length ts

@@ -10,7 +10,7 @@ use Rattle.semantics.specs.declared.token.Token.{Token}
 use Rattle.semantics.specs.declared.query_fault.QueryFault.TheVariants as faults
 use Rattle.semantics.specs.Limits.{max_query_len}
 
--- A text derives a query where it has at most 65,536 bytes and spells tokens that derive the query
+-- A text derives a query if it has at most 65,536 bytes, and spells tokens that derive the query
 -- within the limits.
 pub record Derives (text : List ℕ) (q : TreeForm) : Type 0 where
   pub short : length text ≤ max_query_len
@@ -36,10 +36,10 @@ pub record IsUnexpectedAt (text : List ℕ) (byte : ℕ) : Type 0 where
   pub begins : slice_get (starts ++ length text ∷ []) place ≡ Some byte
   pub unexpected : IsUnexpected tokens place
 
--- What a fault says of a text. Of one of more than 65,536 bytes only that it is over a limit; of
--- any other, that no token begins at a byte, or that the text spells tokens and one of them, or the
--- end, continues no query, or that they are too much. No other fault is one of a text, and want of
--- memory says nothing of it.
+-- What a fault says of a text. A text of more than 65,536 bytes is over a limit, and has no other
+-- fault. Of any other text a fault says that no token begins at a byte; or that the text spells
+-- tokens, and one of them, or the end, is unexpected; or that they are too much. No other fault
+-- is one of a text, and want of memory says nothing of it.
 abbrev pub IsRefusalOf : List ℕ → QueryFault → Type 0
 IsRefusalOf text (faults.NoToken byte) = (length text ≤ max_query_len) × StopsAt text byte
 IsRefusalOf text (faults.Unexpected byte) = (length text ≤ max_query_len) × IsUnexpectedAt text byte

@@ -24,8 +24,8 @@ use Rattle.semantics.specs.declared.kind.Kind.TheVariants as kind
 abbrev pub max_line_len : ℕ
 max_line_len = 1048576
 
--- The JSON value that a line is (RFC 8259), where it is UTF-8 and the JSON reader has a value for
--- it.
+-- The JSON value that a line is (RFC 8259); None if it is not UTF-8 or the JSON reader has no
+-- value for it.
 abbrev pub reading : List ℕ → Option Data
 reading line = if is_utf8 line then read line else None
 
@@ -36,8 +36,9 @@ abbrev pub is_int64 : ℤ → Bool
 is_int64 (pos n) = nat_lt n (2 ^ 63)
 is_int64 (negsuc n) = nat_lt n (2 ^ 63)
 
--- What a column of this type takes of a JSON value: of null NULL, and else a whole number of 64
--- bits, a string or a truth value, by its type.
+-- The value that a column of this type takes from a JSON value: NULL from null; otherwise, by the
+-- type of the column, a whole number of 64 bits, a string or a truth value; None if the JSON
+-- value is of another kind.
 abbrev pub datum_taken : Kind → Data → Option Datum
 datum_taken k json.null = Some null
 datum_taken kind.Int (json.number n) = option_and_then (λ z. if is_int64 z then Some (whole z) else None) (as_integer n)
@@ -49,29 +50,29 @@ datum_taken k d = None
 abbrev pub member_of : Members → List ℕ → Data
 member_of members name = unwrap_or (get_member name members) json.null
 
--- What each column takes of the members of an object.
+-- The value that each column takes from the members of an object.
 abbrev pub data_taken : List Field → Members → List (Option Datum)
 data_taken fields members = map (λ field. datum_taken field.kind (member_of members field.name)) fields
 
 -- ---- the record or the fault
 
--- The data where each column takes something, and else the place of the first column that takes
--- nothing.
+-- The values, if every column takes one; otherwise the position of the first column that takes
+-- none.
 abbrev pub all_taken : List (Option Datum) → Result (List Datum) LineFault
 all_taken found = option_map_or (λ place. Err (BadValue place)) (position is_none found) (Ok (filter_map (λ o. o) found))
 
--- The record of a line with this reading.
+-- The record of a line that is this JSON value, or the fault of the line.
 abbrev pub record_of : List Field → Option Data → Result (List Datum) LineFault
 record_of fields None = Err NoJson
 record_of fields (Some (json.object members)) = all_taken (data_taken fields members)
 record_of fields (Some other) = Err NoObject
 
--- The record of a line under a schema, or the line's first fault: it is too long, has no reading,
--- is no object, or has a member that its column does not take.
+-- The record of a line under a schema, or the first fault of the line: it is too long, it is not
+-- JSON, it is not an object, or a column does not take its member.
 abbrev pub decode_line : List Field → List ℕ → Result (List Datum) LineFault
 decode_line fields line = if nat_lt max_line_len (length line) then Err TooLong else record_of fields (reading line)
 
--- What is taken of each line of the input, in order.
+-- The record or the fault of each line of the input, in order.
 abbrev pub answers : List Field → List ℕ → List (Result (List Datum) LineFault)
 answers fields input = map (decode_line fields) (lines input)
 
@@ -84,7 +85,7 @@ valid_records fields input = filter_map result_ok (answers fields input)
 abbrev pub refused_lines : List Field → List ℕ → List (ℕ × LineFault)
 refused_lines fields input = filter_map (λ p. option_map (λ fault. (p.0, fault)) (result_err p.1)) (enumerate_from 1 (answers fields input))
 
--- A fault is the one that the line has; want of memory says nothing of the line.
+-- What a refusal says of a line: a Fault is the fault of the line; Memory says nothing of it.
 abbrev pub IsRefusal : LineRefusal → Result (List Datum) LineFault → Type 0
 IsRefusal (Fault fault) taken = taken ≡ Err fault
 IsRefusal Memory taken = ⊤

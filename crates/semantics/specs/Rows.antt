@@ -19,8 +19,8 @@ use Rattle.semantics.specs.declared.truth.Truth.TheVariants.{True}
 abbrev pub value_in : List ℕ → Key → ℕ → Datum
 value_in set key place = option_map_or (λ at. slice_index_or key at null) (position (λ column. column == place) set) null
 
--- A typed query names grouping columns and set functions that it has; where another one would, it
--- shows NULL.
+-- What follows is NULL for a name that is no column, and for a set function that the query does
+-- not have. A query without faults has neither.
 
 -- What a row of a grouping set shows for the column of a name.
 abbrev pub name_shown : List Field → List ℕ → Key → List ℕ → Datum
@@ -32,7 +32,7 @@ name_shown fields set key n = option_map_or (value_in set key) (place_of fields 
 abbrev pub is_rolled_up : List Field → List ℕ → List ℕ → Bool
 is_rolled_up fields set n = not (option_map_or (λ place. list_any (λ column. column == place) set) (place_of fields n) false)
 
--- The number of some binary digits, the lowest first.
+-- The number that these binary digits write, the lowest digit first.
 abbrev pub number_of_digits : List Bool → ℕ
 number_of_digits [] = 0
 number_of_digits (digit ∷ higher) = (if digit then 1 else 0) + 2 * number_of_digits higher
@@ -42,7 +42,8 @@ number_of_digits (digit ∷ higher) = (if digit then 1 else 0) + 2 * number_of_d
 abbrev pub grouping_number : List Field → List ℕ → List (List ℕ) → ℕ
 grouping_number fields set names = number_of_digits (reverse (map (is_rolled_up fields set) names))
 
--- GROUPING takes at most 8 columns; of more it shows NULL, but no query has that.
+-- The value of GROUPING. The grammar allows at most 8 columns, so no query has the case of more,
+-- which is NULL here.
 abbrev pub grouping_shown : List Field → List ℕ → List (List ℕ) → Datum
 grouping_shown fields set names = if nat_lt 8 (length names) then null else whole (pos (grouping_number fields set names))
 
@@ -70,8 +71,8 @@ cell_value (ratio sum count) = null
 abbrev pub row_value : List Field → TreeForm → Found → Valuation
 row_value fields t row e = cell_value (expression_shown fields t (set_of fields t row) row.1.key row.1.cells e)
 
--- Whether the predicate of HAVING is True for a row, and not False or Unknown; it is where HAVING is
--- not written.
+-- Whether the predicate of HAVING is True for a row, and neither False nor Unknown; without
+-- HAVING every row passes.
 abbrev pub is_having_true : List Field → TreeForm → Found → Bool
 is_having_true fields t row = same_truth (option_map_or (truth (row_value fields t row)) t.having_condition True) True
 

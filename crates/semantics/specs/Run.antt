@@ -13,7 +13,9 @@ use Rattle.semantics.specs.declared.run_done.Done.{Done}
 use Rattle.semantics.specs.declared.run_fault.RunFault.{RunFault}
 use Rattle.semantics.specs.declared.run_fault.RunFault.TheVariants.{Reading, OutOfMemory, ThreadNotStarted, TooManyRefused, WritingReport, WritingRefused, WritingPart}
 
--- The known bytes grew by a beginning of the text, which may be none or all of it.
+-- What a reader gives and what a writer holds is an Option: None if no contract tells their
+-- bytes, as of a file. Then nothing is said of them. Here the known bytes grew by a beginning of
+-- the text, which may be none or all of it.
 abbrev pub AppendsBeginning : Option (List ℕ) → Option (List ℕ) → List ℕ → Type 0
 AppendsBeginning old new text = (front : List ℕ) × (rest : List ℕ) × (text ≡ front ++ rest) × Appends old new front
 
@@ -56,9 +58,10 @@ Leaves WritingRefused limit fields q input out_old out_new err_old err_new =
     × AppendsBeginning err_old err_new (refusals fields bytes))
 Leaves WritingPart limit fields q input out_old out_new err_old err_new = ⊥
 
--- What a run answers of its input. Where it is done, it answers the counts of lines and of refused
--- lines, and these are within the limit. Where nothing was refused to it, it is done exactly where
--- not more lines are refused than the limit.
+-- What a run answers of its input. If it is done, it answers the numbers of lines and of refused
+-- lines, and the refused lines are within the limit. Unless its answer is that something was
+-- refused to it, it is done exactly if the refused lines are within the limit; this follows from
+-- the other clauses of IsRun.
 pub record IsAnswer (result : Result Done RunFault) (limit : Option ℕ) (fields : List Field) (input : Option (List ℕ)) : Type 0 where
   pub counts_lines : IfOk result (λ done. IfSome input (λ bytes. done.lines ≡ length (lines bytes)))
   pub counts_refused : IfOk result (λ done. IfSome input (λ bytes. done.refused ≡ length (refused_lines fields bytes)))

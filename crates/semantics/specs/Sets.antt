@@ -33,8 +33,8 @@ abbrev mutual
   groups_sets no_groups = []
   groups_sets (group g gs) = group_sets g ++ groups_sets gs
 
--- The sets that a GROUP BY list stands for: the cross product of its elements, the leftmost varying
--- slowest. Without GROUP BY that is the one empty set.
+-- The sets that a GROUP BY list stands for: the cross product of its elements, of which the
+-- leftmost varies slowest. Without GROUP BY there is one set, the empty one.
 abbrev pub expansion : List ElementForm → List (List (List ℕ))
 expansion [] = [] ∷ []
 expansion (g ∷ gs) = cross_product (group_sets g) (expansion gs)

@@ -59,7 +59,8 @@ operand_kind fields (literal a) = Some (literal_kind a)
 
 -- ---- the query
 
--- A key that is the alias of an item stands for that item, the first one that has it.
+-- A key of ORDER BY that is the alias of an item stands for that item, the first one with this
+-- alias.
 abbrev pub key_expression : List ItemForm → ExpressionForm → ExpressionForm
 key_expression items (name n) = option_map_or (λ i. i.expression) (find (λ i. option_map_or (bytes_eq n) i.alias false) items) (name n)
 key_expression items (grouping ns) = grouping ns

@@ -34,8 +34,8 @@ value_order (whole a) (whole b) = int_cmp a b
 value_order (text a) (text b) = slice_cmp nat_cmp a b
 value_order a b = nat_cmp (rank a) (rank b)
 
--- Whether an operator holds where its left operand is less than, equal to or greater than its right
--- one.
+-- Whether an operator holds of two operands, of which the left one is Less than, Equal to or
+-- Greater than the right one.
 abbrev pub accepts : Op → Ordering → Bool
 accepts op.Eq order = is_eq order
 accepts op.Ne order = is_ne order
@@ -44,8 +44,8 @@ accepts op.Le order = is_le order
 accepts op.Gt order = is_gt order
 accepts op.Ge order = is_ge order
 
--- A comparison is unknown where an operand is NULL; else it is true or false by the order of the
--- operands.
+-- A comparison is Unknown if an operand is NULL. Otherwise the order of the operands decides
+-- whether it is True or False.
 abbrev pub comparison : Op → Datum → Datum → Truth
 comparison o null b = Unknown
 comparison o a null = Unknown
