@@ -4,8 +4,8 @@ use Rattle.std.proofs.lemmas.List.Sums.{sum_by-append, sum_by-cons}
 use Rattle.std.proofs.lemmas.Int.{ints}
 use Rattle.semantics.specs.declared.function.ColumnFunction.{ColumnFunction}
 use Rattle.semantics.specs.declared.function.ColumnFunction.TheVariants as function
-use Rattle.semantics.specs.Groups.{Row, Key, members, same_key}
-use Rattle.semantics.specs.Aggregates.{column_values, column_numbers, AggregateFunction, total, least, greatest}
+use Rattle.semantics.specs.Groups.{Record, Key, members, same_key}
+use Rattle.semantics.specs.Aggregates.{column_values, column_numbers, AggregateFunction, total, minimum, maximum}
 use Rattle.group_tables.specs.Values.{set_of}
 use Rattle.group_tables.specs.Accumulator.{counted, summed, averaged, collected, lowest, highest, accumulator_state, state_over, state_counted, state_by, joint_state}
 use Rattle.group_tables.specs.Group.{group_state, joint_states, joint_group}
@@ -23,16 +23,16 @@ plus_flip m n = omega arith
 pub sum_flip : (s t : ℤ) → s +ℤ t ≡ t +ℤ s
 sum_flip s t = omega (arith, ints)
 
-state_over-flip : (f : ColumnFunction) (l m : List Row) → joint_state (state_over f l) (state_over f m) ≡ joint_state (state_over f m) (state_over f l)
+state_over-flip : (f : ColumnFunction) (l m : List Record) → joint_state (state_over f l) (state_over f m) ≡ joint_state (state_over f m) (state_over f l)
 state_over-flip function.CountRows l m = refl
 state_over-flip (function.Count place) l m = ap counted (plus_flip (length (column_values place l)) (length (column_values place m)))
 state_over-flip (function.CountDistinct place) l m = ap collected (union-flip (set_of (column_values place l)) (set_of (column_values place m)))
 state_over-flip (function.Sum place) l m = λ i. summed (sum_flip (total (column_numbers place l)) (total (column_numbers place m)) i) (plus_flip (length (column_numbers place l)) (length (column_numbers place m)) i)
-state_over-flip (function.Min place) l m = ap lowest (less-flip (least (column_values place l)) (least (column_values place m)))
-state_over-flip (function.Max place) l m = ap highest (greater-flip (greatest (column_values place l)) (greatest (column_values place m)))
+state_over-flip (function.Min place) l m = ap lowest (less-flip (minimum (column_values place l)) (minimum (column_values place m)))
+state_over-flip (function.Max place) l m = ap highest (greater-flip (maximum (column_values place l)) (maximum (column_values place m)))
 state_over-flip (function.Avg place) l m = λ i. averaged (sum_flip (total (column_numbers place l)) (total (column_numbers place m)) i) (plus_flip (length (column_numbers place l)) (length (column_numbers place m)) i)
 
-state_counted-flip : (f : ColumnFunction) (l m : List Row) → joint_state (state_counted f l) (state_counted f m) ≡ joint_state (state_counted f m) (state_counted f l)
+state_counted-flip : (f : ColumnFunction) (l m : List Record) → joint_state (state_counted f l) (state_counted f m) ≡ joint_state (state_counted f m) (state_counted f l)
 state_counted-flip function.CountRows l m = ap counted (plus_flip (length l) (length m))
 state_counted-flip (function.Count place) l m = state_over-flip (function.Count place) l m
 state_counted-flip (function.CountDistinct place) l m = state_over-flip (function.CountDistinct place) l m
@@ -41,30 +41,30 @@ state_counted-flip (function.Min place) l m = state_over-flip (function.Min plac
 state_counted-flip (function.Max place) l m = state_over-flip (function.Max place) l m
 state_counted-flip (function.Avg place) l m = state_over-flip (function.Avg place) l m
 
-state_by-flip : (t : Option (Row → Bool)) (f : ColumnFunction) (l m : List Row) → joint_state (state_by t f l) (state_by t f m) ≡ joint_state (state_by t f m) (state_by t f l)
+state_by-flip : (t : Option (Record → Bool)) (f : ColumnFunction) (l m : List Record) → joint_state (state_by t f l) (state_by t f m) ≡ joint_state (state_by t f m) (state_by t f l)
 state_by-flip None f l m = state_over-flip f l m
 state_by-flip (Some keeps) f l m = state_counted-flip f (filter keeps l) (filter keeps m)
 
-parts-flip : (fs : List AggregateFunction) (l m : List Row) → joint_states (map (λ f. accumulator_state f l) fs) (map (λ f. accumulator_state f m) fs) ≡ joint_states (map (λ f. accumulator_state f m) fs) (map (λ f. accumulator_state f l) fs)
+parts-flip : (fs : List AggregateFunction) (l m : List Record) → joint_states (map (λ f. accumulator_state f l) fs) (map (λ f. accumulator_state f m) fs) ≡ joint_states (map (λ f. accumulator_state f m) fs) (map (λ f. accumulator_state f l) fs)
 parts-flip [] l m = refl
 parts-flip (f ∷ fs) l m = λ i. state_by-flip f.filter f.function l m i ∷ parts-flip fs l m i
 
-group_state-flip : (fs : List AggregateFunction) (l m : List Row) → joint_group (group_state fs l) (group_state fs m) ≡ joint_group (group_state fs m) (group_state fs l)
+group_state-flip : (fs : List AggregateFunction) (l m : List Record) → joint_group (group_state fs l) (group_state fs m) ≡ joint_group (group_state fs m) (group_state fs l)
 group_state-flip fs l m = same_state (joint_group (group_state fs l) (group_state fs m)) (joint_group (group_state fs m) (group_state fs l)) (plus_flip (length l) (length m)) (parts-flip fs l m)
 
-pub options-flip : (fs : List AggregateFunction) (a b : Bool) (x y : List Row) → joint_option (cond a (Some (group_state fs x)) None) (cond b (Some (group_state fs y)) None) ≡ joint_option (cond b (Some (group_state fs y)) None) (cond a (Some (group_state fs x)) None)
+pub options-flip : (fs : List AggregateFunction) (a b : Bool) (x y : List Record) → joint_option (cond a (Some (group_state fs x)) None) (cond b (Some (group_state fs y)) None) ≡ joint_option (cond b (Some (group_state fs y)) None) (cond a (Some (group_state fs x)) None)
 options-flip fs true true x y = ap Some (group_state-flip fs x y)
 options-flip fs true false x y = refl
 options-flip fs false true x y = refl
 options-flip fs false false x y = refl
 
-two : (set : List ℕ) (fs : List AggregateFunction) (k : Key) (x y : Row) → group_at set fs k (x ∷ y ∷ []) ≡ group_at set fs k (y ∷ x ∷ [])
+two : (set : List ℕ) (fs : List AggregateFunction) (k : Key) (x y : Record) → group_at set fs k (x ∷ y ∷ []) ≡ group_at set fs k (y ∷ x ∷ [])
 two set fs k x y = group_at-append set fs k (x ∷ []) (y ∷ [])
     ∙ options-flip fs (has_key set k (x ∷ [])) (has_key set k (y ∷ [])) (members set k (x ∷ [])) (members set k (y ∷ []))
     ∙ sym (group_at-append set fs k (y ∷ []) (x ∷ []))
 
 -- a record moves to the front
-front-moved : (set : List ℕ) (fs : List AggregateFunction) (k : Key) (before : List Row) (x : Row) (after : List Row)
+front-moved : (set : List ℕ) (fs : List AggregateFunction) (k : Key) (before : List Record) (x : Record) (after : List Record)
     → group_at set fs k (before ++ x ∷ after) ≡ group_at set fs k (x ∷ (before ++ after))
 front-moved set fs k [] x after = refl
 front-moved set fs k (y ∷ before) x after =
@@ -77,16 +77,16 @@ front-moved set fs k (y ∷ before) x after =
 
 -- ---- a record of a list
 
-record Within (x : Row) (rows : List Row) : Type 0 where
-  before : List Row
-  after : List Row
+record Within (x : Record) (rows : List Record) : Type 0 where
+  before : List Record
+  after : List Record
   parts : rows ≡ before ++ x ∷ after
 
 -- a record weighs one where it is this one, and else nothing
-abbrev is_this : Row → Row → ℕ
+abbrev is_this : Record → Record → ℕ
 is_this x y = cond (same_key x y) 1 0
 
-within : (x : Row) (rows : List Row) → sum_by (is_this x) rows ≢ 0 → Within x rows
+within : (x : Record) (rows : List Record) → sum_by (is_this x) rows ≢ 0 → Within x rows
 within x [] h = absurd (h refl)
 within x (y ∷ rows) h =
     elim (same_key x y) as (λ b. same_key x y ≡ b → cond b 1 0 + sum_by (is_this x) rows ≢ 0 → Within x (y ∷ rows)) [
@@ -94,7 +94,7 @@ within x (y ∷ rows) h =
       | false ↦ λ e i. let r = within x rows (λ z. i (omega (arith, z))) in record { before = y ∷ r.before; after = r.after; parts = ap (λ zs. y ∷ zs) r.parts }
     ] refl (λ none. h (sum_by-cons (is_this x) y rows ∙ none))
 
-pub group_at-bag : (set : List ℕ) (fs : List AggregateFunction) (k : Key) (l m : List Row) → SameBag l m → group_at set fs k l ≡ group_at set fs k m
+pub group_at-bag : (set : List ℕ) (fs : List AggregateFunction) (k : Key) (l m : List Record) → SameBag l m → group_at set fs k l ≡ group_at set fs k m
 group_at-bag set fs k [] [] s = refl
 group_at-bag set fs k [] (y ∷ m) s = absurd (omega (arith, length-bag [] (y ∷ m) s))
 group_at-bag set fs k (x ∷ l) m s =
@@ -115,5 +115,5 @@ group_at-bag set fs k (x ∷ l) m s =
     ∙ ap (group_at set fs k) (sym r.parts)
 
 -- a table of records is that of the same records in another order
-pub table-same : (set : List ℕ) (fs : List AggregateFunction) (t : Contents) (l m : List Row) → SameBag l m → IsTableOf set fs t l → IsTableOf set fs t m
+pub table-same : (set : List ℕ) (fs : List AggregateFunction) (t : Contents) (l m : List Record) → SameBag l m → IsTableOf set fs t l → IsTableOf set fs t m
 table-same set fs t l m s h k = h k ∙ group_at-bag set fs k l m s

@@ -11,7 +11,7 @@ use Rattle.std.specs.List.{AllByRecursion, IsDistinct, list_any}
 use Rattle.std.specs.List.Sorted.{IsStrictlySortedBy}
 use Rattle.std.specs.Ordering.{eq_by_cmp, is_eq, is_gt, is_lt, ordering_reverse}
 use lib.Dec.{T}
-use Rattle.semantics.specs.Order.{insertion, in_order}
+use Rattle.semantics.specs.Order.{inserted_by, sorted_by}
 use Rattle.group_tables.specs.Entries.{IsAscending}
 
 -- ---- how two things stand to each other
@@ -35,35 +35,35 @@ not_behind Greater Greater e h = absurd cc
 
 -- ---- what holds of each thing
 
-all-inserted : {X : Type 0} (order : X → X → Ordering) (P : X → Type 0) (x : X) (ys : List X) → P x → AllByRecursion P ys → AllByRecursion P (insertion order x ys)
+all-inserted : {X : Type 0} (order : X → X → Ordering) (P : X → Type 0) (x : X) (ys : List X) → P x → AllByRecursion P ys → AllByRecursion P (inserted_by order x ys)
 all-inserted order P x [] h all = (h, tt)
 all-inserted order P x (y ∷ ys) h all =
-    elim (is_gt (order x y)) as (λ (b : Bool). AllByRecursion P (cond b (y ∷ insertion order x ys) (x ∷ y ∷ ys))) [
+    elim (is_gt (order x y)) as (λ (b : Bool). AllByRecursion P (cond b (y ∷ inserted_by order x ys) (x ∷ y ∷ ys))) [
       | true ↦ (all.0, all-inserted order P x ys h all.1)
       | false ↦ (h, all)
     ]
 
-all-in_order : {X : Type 0} (order : X → X → Ordering) (P : X → Type 0) (xs : List X) → AllByRecursion P xs → AllByRecursion P (in_order order xs)
+all-in_order : {X : Type 0} (order : X → X → Ordering) (P : X → Type 0) (xs : List X) → AllByRecursion P xs → AllByRecursion P (sorted_by order xs)
 all-in_order order P [] all = tt
-all-in_order order P (x ∷ xs) all = all-inserted order P x (in_order order xs) all.0 (all-in_order order P xs all.1)
+all-in_order order P (x ∷ xs) all = all-inserted order P x (sorted_by order xs) all.0 (all-in_order order P xs all.1)
 
 or_turned : (a b c : Bool) → (a || (b || c)) ≡ (b || (a || c))
 or_turned true true c = refl
 or_turned true false c = refl
 or_turned false b c = refl
 
-any-inserted : {X : Type 0} (order : X → X → Ordering) (p : X → Bool) (x : X) (ys : List X) → list_any p (insertion order x ys) ≡ (p x || list_any p ys)
+any-inserted : {X : Type 0} (order : X → X → Ordering) (p : X → Bool) (x : X) (ys : List X) → list_any p (inserted_by order x ys) ≡ (p x || list_any p ys)
 any-inserted order p x [] = refl
 any-inserted order p x (y ∷ ys) =
-    elim (is_gt (order x y)) as (λ (b : Bool). list_any p (cond b (y ∷ insertion order x ys) (x ∷ y ∷ ys)) ≡ (p x || (p y || list_any p ys))) [
+    elim (is_gt (order x y)) as (λ (b : Bool). list_any p (cond b (y ∷ inserted_by order x ys) (x ∷ y ∷ ys)) ≡ (p x || (p y || list_any p ys))) [
       | true ↦ ap (λ (b : Bool). p y || b) (any-inserted order p x ys) ∙ or_turned (p y) (p x) (list_any p ys)
       | false ↦ refl
     ]
 
 -- a list in order has the same things
-pub any-in_order : {X : Type 0} (order : X → X → Ordering) (p : X → Bool) (xs : List X) → list_any p (in_order order xs) ≡ list_any p xs
+pub any-in_order : {X : Type 0} (order : X → X → Ordering) (p : X → Bool) (xs : List X) → list_any p (sorted_by order xs) ≡ list_any p xs
 any-in_order order p [] = refl
-any-in_order order p (x ∷ xs) = any-inserted order p x (in_order order xs) ∙ ap (λ (b : Bool). p x || b) (any-in_order order p xs)
+any-in_order order p (x ∷ xs) = any-inserted order p x (sorted_by order xs) ∙ ap (λ (b : Bool). p x || b) (any-in_order order p xs)
 
 -- ---- lists that ascend
 
@@ -95,20 +95,20 @@ module _ {X : Type 0} {order : X → X → Ordering} (o : IsTotalOrder order) wh
       (not_behind (order (key y) (key z)) (order (key z) (key y)) (o.antisymm (key y) (key z)) (h 0 y (omega arith) (omega arith))) d.0.0 in
       ((first, through (key y) (key z) (map key zs) first rest.0), rest)
 
-  sorted-inserted : (x : X) (ys : List X) → AllByRecursion (λ y. eq_by_cmp order x y ≡ false) ys → IsStrictlySortedBy order ys → IsStrictlySortedBy order (insertion order x ys)
+  sorted-inserted : (x : X) (ys : List X) → AllByRecursion (λ y. eq_by_cmp order x y ≡ false) ys → IsStrictlySortedBy order ys → IsStrictlySortedBy order (inserted_by order x ys)
   unfolding IsStrictlySortedBy
   sorted-inserted x [] apart s = (tt, tt)
   sorted-inserted x (y ∷ ys) apart s =
-      elim (is_gt (order x y)) as (λ (b : Bool). is_gt (order x y) ≡ b → IsStrictlySortedBy order (cond b (y ∷ insertion order x ys) (x ∷ y ∷ ys))) [
+      elim (is_gt (order x y)) as (λ (b : Bool). is_gt (order x y) ≡ b → IsStrictlySortedBy order (cond b (y ∷ inserted_by order x ys) (x ∷ y ∷ ys))) [
         | true ↦ λ e. (all-inserted order (λ z. order y z ≡ Less) x ys (turned_greater (order y x) (order x y) (o.antisymm y x) e) s.0, sorted-inserted x ys apart.1 s.1)
         | false ↦ λ e. let less = no_other (order x y) e apart.0 in ((less, through x y ys less s.0), s)
       ] refl
 
   -- and in a list without repeats that is in order
-  pub in_order-sorted : (xs : List X) → IsDistinct (eq_by_cmp order) xs → IsStrictlySortedBy order (in_order order xs)
+  pub in_order-sorted : (xs : List X) → IsDistinct (eq_by_cmp order) xs → IsStrictlySortedBy order (sorted_by order xs)
   unfolding IsStrictlySortedBy IsDistinct
   in_order-sorted [] d = tt
-  in_order-sorted (x ∷ xs) d = sorted-inserted x (in_order order xs) (all-in_order order (λ y. eq_by_cmp order x y ≡ false) xs d.0) (in_order-sorted xs d.1)
+  in_order-sorted (x ∷ xs) d = sorted-inserted x (sorted_by order xs) (all-in_order order (λ y. eq_by_cmp order x y ≡ false) xs d.0) (in_order-sorted xs d.1)
 
   -- two such lists with the same things are one, where no two things tie
   pub one-sorted : CmpEqualImpliesEq order → (xs ys : List X) → IsStrictlySortedBy order xs → IsStrictlySortedBy order ys

@@ -6,7 +6,7 @@ use Rattle.std.specs.List.{list_any, IsDistinct, AllByRecursion}
 use Rattle.std.specs.Map.{keys_of}
 use Rattle.std.specs.FinMap as fin
 use Rattle.query_resolve.specs.declared.function.FilteredFunction.{FilteredFunction}
-use Rattle.semantics.specs.Groups.{Row, Key, key_order, members, project, same_key}
+use Rattle.semantics.specs.Groups.{Record, Key, key_order, members, project, same_key}
 use Rattle.semantics.specs.Aggregates.{AggregateFunction}
 use Rattle.group_tables.specs.Functions.{aggregate_of}
 use Rattle.group_tables.specs.declared.packed_key.PackedKey.{PackedKey}
@@ -260,7 +260,7 @@ not-any q (k ∷ ks) h =
     ] refl h
 
 -- the members of different keys are no more than all records, each once at most
-spread-most : (set : List ℕ) (ks : List Key) → IsDistinct same_key ks → (rows : List Row)
+spread-most : (set : List ℕ) (ks : List Key) → IsDistinct same_key ks → (rows : List Record)
     → sum_by (λ _. 1) (spread set rows ks) ≤ length rows
 spread-most set ks distinct [] = let a = spread-none (λ _. 1) set ks in omega (arith, a)
 spread-most set ks distinct (row ∷ rows) =
@@ -272,12 +272,12 @@ spread-most set ks distinct (row ∷ rows) =
       | false ↦ λ is. let a = missed (λ _. 1) set row rows ks (not-any q ks is) in omega (arith, a, rest)
     ] refl
 
-group-lines : (fs : List AggregateFunction) (b : Bool) (rows : List Row)
+group-lines : (fs : List AggregateFunction) (b : Bool) (rows : List Record)
     → lines_of (cond b (Some (group_state fs rows)) None) ≤ length rows
 group-lines fs true rows = omega arith
 group-lines fs false rows = omega arith
 
-table-lines : (set : List ℕ) (fs : List AggregateFunction) (t : Contents) (rows : List Row) → IsTableOf set fs t rows
+table-lines : (set : List ℕ) (fs : List AggregateFunction) (t : Contents) (rows : List Record) → IsTableOf set fs t rows
     → (ks : List Key) → sum_by (lines_at t) ks ≤ sum_by (λ _. 1) (spread set rows ks)
 table-lines set fs t rows is [] = omega arith
 table-lines set fs t rows is (k ∷ ks) =
@@ -289,16 +289,16 @@ table-lines set fs t rows is (k ∷ ks) =
     let b = ones m in
     omega (arith, here, rest, a, b, sum_by-cons (lines_at t) k ks)
 
-group-parts : (functions : List FilteredFunction) (fs : List AggregateFunction) (b : Bool) (rows : List Row)
+group-parts : (functions : List FilteredFunction) (fs : List AggregateFunction) (b : Bool) (rows : List Record)
     → length fs ≡ length functions
     → HasParts functions (cond b (Some (group_state fs rows)) None)
 group-parts functions fs true rows same = length-map fs (λ f. accumulator_state f rows) ∙ same
 group-parts functions fs false rows same = tt
 
 -- the groups of a table have no more records than the table is of
-pub records-counted : (most : ℕ) (set : List ℕ) (functions : List FilteredFunction) (filters : List (Row → Bool))
+pub records-counted : (most : ℕ) (set : List ℕ) (functions : List FilteredFunction) (filters : List (Record → Bool))
     (t : Contents)
-    (rows : List Row) → IsTableUnder set functions filters t rows → length rows ≤ most → IsCounted most functions t
+    (rows : List Record) → IsTableUnder set functions filters t rows → length rows ≤ most → IsCounted most functions t
 records-counted most set functions filters t rows is few =
     let fs = map (aggregate_of filters) functions in
     record {

@@ -2,9 +2,9 @@
 use Rattle.std.proofs.Common.{◌≡◌, ◌+◌, ℕ, Bool, true, false, ◌||◌, cond, List, [], ◌∷◌, map, length, refl, sym, ap, ◌∙◌, sum_by, arith}
 use Rattle.std.proofs.lemmas.List.Sums.{sum_by-append, sum_by-cons}
 use Rattle.std.specs.List.{list_any, flat_map, IsDistinct, AllByRecursion}
-use Rattle.semantics.specs.Groups.{Row, Key, project, same_key, keys, members}
+use Rattle.semantics.specs.Groups.{Record, Key, project, same_key, keys, members}
 use Rattle.semantics.specs.Aggregates.{AggregateFunction}
-use Rattle.semantics.specs.Found.{group_summary}
+use Rattle.semantics.specs.ResultRows.{group_summary}
 use Rattle.group_tables.specs.GroupSummaries.{group_summaries}
 use Rattle.group_tables.specs.Bags.{SameBag}
 use Rattle.group_tables.proofs.Bags.{ones}
@@ -13,10 +13,10 @@ use Rattle.group_tables.proofs.Meaning.{any-key}
 use Rattle.group_tables.proofs.GroupsLaw.{keys-distinct}
 
 -- the members of keys, joined
-abbrev pub spread : List ℕ → List Row → List Key → List Row
+abbrev pub spread : List ℕ → List Record → List Key → List Record
 spread set rows ks = flat_map (λ k. members set k rows) ks
 
-pub spread-none : (w : Row → ℕ) (set : List ℕ) (ks : List Key) → sum_by w (spread set [] ks) ≡ 0
+pub spread-none : (w : Record → ℕ) (set : List ℕ) (ks : List Key) → sum_by w (spread set [] ks) ≡ 0
 spread-none w set [] = refl
 spread-none w set (k ∷ ks) = spread-none w set ks
 
@@ -30,7 +30,7 @@ not_swapped k q e = elim (same_key q k) as (λ b. same_key q k ≡ b → b ≡ f
 ] refl
 
 -- a record whose key is none of these is no member of theirs
-pub missed : (w : Row → ℕ) (set : List ℕ) (row : Row) (rows : List Row) (ks : List Key) → AllByRecursion (λ k. same_key k (project set row) ≡ false) ks
+pub missed : (w : Record → ℕ) (set : List ℕ) (row : Record) (rows : List Record) (ks : List Key) → AllByRecursion (λ k. same_key k (project set row) ≡ false) ks
     → sum_by w (spread set (row ∷ rows) ks) ≡ sum_by w (spread set rows ks)
 missed w set row rows [] h = refl
 missed w set row rows (k ∷ ks) h =
@@ -53,7 +53,7 @@ others k q (y ∷ ys) e h = (
 )
 
 -- of different keys, among which is the record's, exactly one has it
-pub hit : (w : Row → ℕ) (set : List ℕ) (row : Row) (rows : List Row) (ks : List Key) → IsDistinct same_key ks → list_any (same_key (project set row)) ks ≡ true
+pub hit : (w : Record → ℕ) (set : List ℕ) (row : Record) (rows : List Record) (ks : List Key) → IsDistinct same_key ks → list_any (same_key (project set row)) ks ≡ true
     → sum_by w (spread set (row ∷ rows) ks) ≡ w row + sum_by w (spread set rows ks)
 unfolding IsDistinct
 hit w set row rows [] d h = cc
@@ -80,7 +80,7 @@ or-true : (b : Bool) → (b || true) ≡ true
 or-true true = refl
 or-true false = refl
 
-covered : (w : Row → ℕ) (set : List ℕ) (ks : List Key) → IsDistinct same_key ks → (rows : List Row)
+covered : (w : Record → ℕ) (set : List ℕ) (ks : List Key) → IsDistinct same_key ks → (rows : List Record)
     → ((q : Key) → list_any (same_key q) (map (project set) rows) ≡ true → list_any (same_key q) ks ≡ true)
     → sum_by w (spread set rows ks) ≡ sum_by w rows
 covered w set ks d [] h = spread-none w set ks
@@ -91,7 +91,7 @@ covered w set ks d (row ∷ rows) h =
     let this = hit w set row rows ks d own in
     omega (arith, rest, this, sum_by-cons w row rows)
 
-only_empty : (q : Key) (rows : List Row) → list_any (same_key q) (map (project []) rows) ≡ true → list_any (same_key q) ([] ∷ []) ≡ true
+only_empty : (q : Key) (rows : List Record) → list_any (same_key q) (map (project []) rows) ≡ true → list_any (same_key q) ([] ∷ []) ≡ true
 only_empty q [] h = cc
 only_empty q (row ∷ rows) h = elim (same_key q []) as (λ b. same_key q [] ≡ b → (b || list_any (same_key q) (map (project []) rows)) ≡ true → (b || false) ≡ true) [
   | true ↦ λ e i. refl
@@ -99,20 +99,20 @@ only_empty q (row ∷ rows) h = elim (same_key q []) as (λ b. same_key q [] ≡
 ] refl h
 
 -- the key of a record is one of the keys
-pub own-key : (set : List ℕ) (q : Key) (rows : List Row) → list_any (same_key q) (map (project set) rows) ≡ true → list_any (same_key q) (keys set rows) ≡ true
+pub own-key : (set : List ℕ) (q : Key) (rows : List Record) → list_any (same_key q) (map (project set) rows) ≡ true → list_any (same_key q) (keys set rows) ≡ true
 own-key [] q rows h = only_empty q rows h
 own-key (p ∷ ps) q rows h = any-key q (map (project (p ∷ ps)) rows) ∙ h
 
 -- the members of different keys, among which are those of all records, are the records, each as often
-pub spread-bag : (set : List ℕ) (ks : List Key) → IsDistinct same_key ks → (rows : List Row)
+pub spread-bag : (set : List ℕ) (ks : List Key) → IsDistinct same_key ks → (rows : List Record)
     → ((q : Key) → list_any (same_key q) (map (project set) rows) ≡ true → list_any (same_key q) ks ≡ true) → SameBag (spread set rows ks) rows
 spread-bag set ks d rows h w = covered w set ks d rows h
 
 -- so are the members of all keys
-pub members-bag : (set : List ℕ) (rows : List Row) → SameBag (flat_map (λ key. members set key rows) (keys set rows)) rows
+pub members-bag : (set : List ℕ) (rows : List Record) → SameBag (flat_map (λ key. members set key rows) (keys set rows)) rows
 members-bag set rows = spread-bag set (keys set rows) (keys-distinct set rows) rows (λ q h. own-key set q rows h)
 
-lines-spread : (set : List ℕ) (fs : List AggregateFunction) (rows : List Row) (ks : List Key)
+lines-spread : (set : List ℕ) (fs : List AggregateFunction) (rows : List Record) (ks : List Key)
     → sum_by (λ r. r.lines) (map (λ k. group_summary fs k (members set k rows)) ks) ≡ sum_by (λ _. 1) (spread set rows ks)
 lines-spread set fs rows [] = refl
 lines-spread set fs rows (k ∷ ks) =
@@ -122,5 +122,5 @@ lines-spread set fs rows (k ∷ ks) =
     omega (arith, h, x, y, sum_by-cons (λ r. r.lines) (group_summary fs k (members set k rows)) (map (λ l. group_summary fs l (members set l rows)) ks))
 
 -- the numbers of members of all groups add up to the number of records
-pub lines-add_up : (set : List ℕ) (fs : List AggregateFunction) (rows : List Row) → sum_by (λ r. r.lines) (group_summaries set fs rows) ≡ length rows
+pub lines-add_up : (set : List ℕ) (fs : List AggregateFunction) (rows : List Record) → sum_by (λ r. r.lines) (group_summaries set fs rows) ≡ length rows
 lines-add_up set fs rows = lines-spread set fs rows (keys set rows) ∙ members-bag set rows (λ _. 1) ∙ ones rows

@@ -7,8 +7,8 @@ use Rattle.std.specs.List.{AllByRecursion, IsDistinct, list_any}
 use Rattle.std.specs.List.Sorted.{IsStrictlySortedBy}
 use Rattle.semantics.specs.Aggregates.{AggregateFunction}
 use Rattle.semantics.specs.Columns.{Field}
-use Rattle.semantics.specs.Groups.{Key, Row, key_order, keys, members, same_key}
-use Rattle.semantics.specs.Order.{in_order}
+use Rattle.semantics.specs.Groups.{Key, Record, key_order, keys, members, same_key}
+use Rattle.semantics.specs.Order.{sorted_by}
 use Rattle.query_resolve.specs.declared.function.FilteredFunction.{FilteredFunction}
 use Rattle.semantics.specs.GroupStates.{entries_over, entry_over, EntryForm}
 use Rattle.group_tables.specs.Functions.{aggregates_of}
@@ -24,33 +24,33 @@ use Rattle.group_tables.proofs.Plain.{plain-states, states-told}
 
 -- ---- of a table of records
 
-abbrev keys_in_order : List ℕ → List Row → List Key
-keys_in_order set rows = in_order key_order (keys set rows)
+abbrev keys_in_order : List ℕ → List Record → List Key
+keys_in_order set rows = sorted_by key_order (keys set rows)
 
-keys-sorted : (set : List ℕ) (rows : List Row) → IsStrictlySortedBy key_order (keys_in_order set rows)
+keys-sorted : (set : List ℕ) (rows : List Record) → IsStrictlySortedBy key_order (keys_in_order set rows)
 keys-sorted set rows = in_order-sorted key_total (keys set rows) (keys-distinct set rows)
 
 -- what is found at a key among the groups of all keys in order
-found-in_order : (set : List ℕ) (fs : List AggregateFunction) (rows : List Row) (q : Key) → fin.find key_order q (map (group_over set fs rows) (keys_in_order set rows))
+found-in_order : (set : List ℕ) (fs : List AggregateFunction) (rows : List Record) (q : Key) → fin.find key_order q (map (group_over set fs rows) (keys_in_order set rows))
     ≡ cond (list_any (same_key q) (keys set rows)) (Some (group_state fs (members set q rows))) None
 found-in_order set fs rows q =
     found (λ k. group_state fs (members set k rows)) q (keys_in_order set rows)
     ∙ ap (λ b. cond b (Some (group_state fs (members set q rows))) None) (any-in_order key_order (same_key q) (keys set rows))
 
-entries-records : (set : List ℕ) (fs : List AggregateFunction) (t : Contents) (rows : List Row) → IsTableOf set fs t rows → map (group_over set fs rows) (keys_in_order set rows) ≡ fin.entries t
+entries-records : (set : List ℕ) (fs : List AggregateFunction) (t : Contents) (rows : List Record) → IsTableOf set fs t rows → map (group_over set fs rows) (keys_in_order set rows) ≡ fin.entries t
 entries-records set fs t rows h =
     let ks = keys_in_order set rows in
     in-order t (map (group_over set fs rows) ks) (subst (λ (xs : List Key). IsStrictlySortedBy key_order xs) (firsts set fs rows ks) (keys-sorted set rows))
     (λ q. found-in_order set fs rows q ∙ sym (h q))
 
-entry-of : (set : List ℕ) (fs : List AggregateFunction) (rows : List Row) (k : Key) → entry_at (group_over set fs rows k) ≡ entry_over set fs rows k
+entry-of : (set : List ℕ) (fs : List AggregateFunction) (rows : List Record) (k : Key) → entry_at (group_over set fs rows k) ≡ entry_over set fs rows k
 entry-of set fs rows k = λ i. record { key = k; members = (entry_over set fs rows k).members; states = plain-states fs (members set k rows) i }
 
-entries-of : (set : List ℕ) (fs : List AggregateFunction) (rows : List Row) (ks : List Key) → map entry_at (map (group_over set fs rows) ks) ≡ map (entry_over set fs rows) ks
+entries-of : (set : List ℕ) (fs : List AggregateFunction) (rows : List Record) (ks : List Key) → map entry_at (map (group_over set fs rows) ks) ≡ map (entry_over set fs rows) ks
 entries-of set fs rows [] = refl
 entries-of set fs rows (k ∷ ks) = λ i. entry-of set fs rows k i ∷ entries-of set fs rows ks i
 
-pub of-records : (set : List ℕ) (fs : List AggregateFunction) (t : Contents) (rows : List Row) → IsTableOf set fs t rows → table_entries t ≡ entries_over set fs rows
+pub of-records : (set : List ℕ) (fs : List AggregateFunction) (t : Contents) (rows : List Record) → IsTableOf set fs t rows → table_entries t ≡ entries_over set fs rows
 of-records set fs t rows h = ap (map entry_at) (sym (entries-records set fs t rows h)) ∙ entries-of set fs rows (keys_in_order set rows)
 
 -- ---- and back
@@ -79,7 +79,7 @@ typed-each fields set functions t (e ∷ es) typed all = (
 )
 
 -- the group that has an entry's plain form
-group-told : (fields : List Field) (set : List ℕ) (functions : List FilteredFunction) (filters : List (Row → Bool)) (rows : List Row) (e : Key × GroupState) (k : Key)
+group-told : (fields : List Field) (set : List ℕ) (functions : List FilteredFunction) (filters : List (Record → Bool)) (rows : List Record) (e : Key × GroupState) (k : Key)
     → AreStatesOf fields functions e.1.parts → entry_at e ≡ entry_over set (aggregates_of filters functions) rows k → e ≡ group_over set (aggregates_of filters functions) rows k
 group-told fields set functions filters rows e k typed is =
     let key : e.0 ≡ k = ap (λ (x : EntryForm). x.key) is in
@@ -87,7 +87,7 @@ group-told fields set functions filters rows e k typed is =
     let parts = states-told fields functions filters (members set k rows) e.1.parts typed (ap (λ (x : EntryForm). x.states) is) in
     λ i. (key i, record { lines = lines i; parts = parts i })
 
-groups-told : (fields : List Field) (set : List ℕ) (functions : List FilteredFunction) (filters : List (Row → Bool)) (rows : List Row) (es : List (Key × GroupState)) (ks : List Key)
+groups-told : (fields : List Field) (set : List ℕ) (functions : List FilteredFunction) (filters : List (Record → Bool)) (rows : List Record) (es : List (Key × GroupState)) (ks : List Key)
     → AllByRecursion (λ e. AreStatesOf fields functions e.1.parts) es → map entry_at es ≡ map (entry_over set (aggregates_of filters functions) rows) ks → es ≡ map (group_over set (aggregates_of filters functions) rows) ks
 groups-told fields set functions filters rows [] [] typed is = refl
 groups-told fields set functions filters rows [] (k ∷ ks) typed is = cc
@@ -97,7 +97,7 @@ groups-told fields set functions filters rows (e ∷ es) (k ∷ ks) typed is =
     let rest : map entry_at es ≡ map (entry_over set (aggregates_of filters functions) rows) ks = cc in
     λ i. group-told fields set functions filters rows e k typed.0 first i ∷ groups-told fields set functions filters rows es ks typed.1 rest i
 
-keys-told : (set : List ℕ) (fs : List AggregateFunction) (rows : List Row) (es : List (Key × GroupState)) (ks : List Key) → map entry_at es ≡ map (entry_over set fs rows) ks → map (λ e. e.0) es ≡ ks
+keys-told : (set : List ℕ) (fs : List AggregateFunction) (rows : List Record) (es : List (Key × GroupState)) (ks : List Key) → map entry_at es ≡ map (entry_over set fs rows) ks → map (λ e. e.0) es ≡ ks
 keys-told set fs rows [] [] is = refl
 keys-told set fs rows [] (k ∷ ks) is = cc
 keys-told set fs rows (e ∷ es) [] is = cc
@@ -111,7 +111,7 @@ all-got t [] all = tt
 all-got t (f ∷ fs) all = (fin.get-entries t f.0 ∙ all.0, all-got t fs all.1)
 
 -- a table of the types of columns and set functions that has the list of some records' groups is that of these
-pub is-table : (fields : List Field) (set : List ℕ) (functions : List FilteredFunction) (filters : List (Row → Bool)) (t : Contents) (rows : List Row)
+pub is-table : (fields : List Field) (set : List ℕ) (functions : List FilteredFunction) (filters : List (Record → Bool)) (t : Contents) (rows : List Record)
     → IsTypedTable fields set functions t → table_entries t ≡ entries_over set (aggregates_of filters functions) rows → IsTableUnder set functions filters t rows
 is-table fields set functions filters t rows typed is q =
     let fs = aggregates_of filters functions in

@@ -3,19 +3,19 @@ use Rattle.std.proofs.Common.{◌≡◌, List, [], ◌∷◌, pos, negsuc, Bool,
 use Rattle.semantics.specs.Values.{boolean, whole, text, null}
 use Rattle.semantics.specs.declared.function.ColumnFunction.{ColumnFunction}
 use Rattle.semantics.specs.declared.function.ColumnFunction.TheVariants as function
-use Rattle.semantics.specs.Groups.{Row, value_at, groups, keys, members}
+use Rattle.semantics.specs.Groups.{Record, value_at, groups, keys, members}
 use Rattle.semantics.specs.Aggregates.{AggregateFunction, agg, plain, ratio, same_value}
 
-abbrev first : Row
+abbrev first : Record
 first = text (codes "x") ∷ text (codes "n") ∷ whole (pos 5) ∷ []
 
-abbrev second : Row
+abbrev second : Record
 second = text (codes "x") ∷ null ∷ whole (pos 2) ∷ []
 
-abbrev third : Row
+abbrev third : Record
 third = text (codes "y") ∷ text (codes "n") ∷ null ∷ []
 
-abbrev rows : List Row
+abbrev rows : List Record
 rows = first ∷ second ∷ third ∷ []
 
 -- a set function without FILTER
@@ -23,7 +23,7 @@ abbrev all : ColumnFunction → AggregateFunction
 all f = record { function = f; filter = None }
 
 -- a set function with FILTER
-abbrev over : ColumnFunction → (Row → Bool) → AggregateFunction
+abbrev over : ColumnFunction → (Record → Bool) → AggregateFunction
 over f keeps = record { function = f; filter = Some keeps }
 
 -- GROUP BY d
@@ -66,7 +66,7 @@ count_of_none : agg (all function.CountRows) [] ≡ plain (whole (pos 0))
 count_of_none = refl
 
 -- a sum of numbers of 64 bits that needs more than 64 bits
-wide : Row
+wide : Record
 wide = whole (pos 9223372036854775807) ∷ []
 
 wide_sum : agg (all (function.Sum 0)) (wide ∷ wide ∷ wide ∷ []) ≡ plain (whole (pos 27670116110564327421))
@@ -75,7 +75,7 @@ wide_sum = refl
 
 -- ---- the other functions, over the numbers -3, 4, -3, NULL and 10
 
-abbrev numbers : List Row
+abbrev numbers : List Record
 numbers = (whole (negsuc 2) ∷ []) ∷ (whole (pos 4) ∷ []) ∷ (whole (negsuc 2) ∷ []) ∷ (null ∷ []) ∷ (whole (pos 10) ∷ []) ∷ []
 
 count_numbers : agg (all (function.Count 0)) numbers ≡ plain (whole (pos 4))
@@ -95,7 +95,7 @@ average_number = refl
 
 -- ---- two columns, of texts and of truth values
 
-abbrev both : List Row
+abbrev both : List Record
 both = (text (codes "b") ∷ boolean true ∷ []) ∷ (text (codes "Z") ∷ boolean false ∷ []) ∷ (null ∷ null ∷ []) ∷ (text (codes "ba") ∷ boolean true ∷ []) ∷ []
 
 least_text : agg (all (function.Min 0)) both ≡ plain (text (codes "Z"))
@@ -141,11 +141,11 @@ average_of_none = refl
 -- ---- with FILTER
 
 -- FILTER (WHERE r IS NULL)
-abbrev without_r : Row → Bool
+abbrev without_r : Record → Bool
 without_r row = same_value (value_at 1 row) null
 
 -- no record
-abbrev none : Row → Bool
+abbrev none : Record → Bool
 none row = false
 
 count_without_r : agg (over function.CountRows without_r) rows ≡ plain (whole (pos 1))

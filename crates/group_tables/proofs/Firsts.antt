@@ -10,7 +10,7 @@ use Rattle.semantics.specs.Values.{Datum, boolean, whole, text, null, value_orde
 use Rattle.values.specs.Datum.{datum_of}
 use Rattle.values.specs.declared.value.Value.{Value}
 use Rattle.values.specs.declared.value.Value.TheVariants as v
-use Rattle.semantics.specs.Aggregates.{is_present, present, least, greatest}
+use Rattle.semantics.specs.Aggregates.{is_non_null, non_null, minimum, maximum}
 use Rattle.group_tables.specs.Values.{falling_order, first_by}
 use Rattle.group_tables.proofs.Order.{value_total, value_antisymmetric}
 
@@ -183,10 +183,10 @@ null_last (whole n) = refl
 null_last (text s) = refl
 null_last null = refl
 
-pub least-append : (xs ys : List Datum) → least (xs ++ ys) ≡ first_by value_order (least xs) (least ys)
+pub least-append : (xs ys : List Datum) → minimum (xs ++ ys) ≡ first_by value_order (minimum xs) (minimum ys)
 least-append xs ys = picked-append value_total value_antisymmetric null_last xs ys
 
-pub least-one : (d : Datum) → least (present (d ∷ [])) ≡ d
+pub least-one : (d : Datum) → minimum (non_null (d ∷ [])) ≡ d
 least-one (boolean b) = picked-one value_total value_antisymmetric null_last (boolean b)
 least-one (whole n) = picked-one value_total value_antisymmetric null_last (whole n)
 least-one (text s) = picked-one value_total value_antisymmetric null_last (text s)
@@ -255,17 +255,17 @@ falling_last (text s) = refl
 falling_last null = refl
 
 abbrev pub ArePresent : List Datum → Type 0
-ArePresent xs = AllByRecursion (λ d. is_present d ≡ true) xs
+ArePresent xs = AllByRecursion (λ d. is_non_null d ≡ true) xs
 
-pub present-all : (xs : List Datum) → ArePresent (present xs)
+pub present-all : (xs : List Datum) → ArePresent (non_null xs)
 present-all [] = tt
-present-all (x ∷ xs) = elim (is_present x) as (λ b. is_present x ≡ b → ArePresent (cond b (x ∷ present xs) (present xs))) [ true ↦ λ e. (e, present-all xs) | false ↦ λ e. present-all xs ] refl
+present-all (x ∷ xs) = elim (is_non_null x) as (λ b. is_non_null x ≡ b → ArePresent (cond b (x ∷ non_null xs) (non_null xs))) [ true ↦ λ e. (e, present-all xs) | false ↦ λ e. present-all xs ] refl
 
 present-append : (xs ys : List Datum) → ArePresent xs → ArePresent ys → ArePresent (xs ++ ys)
 present-append [] ys p q = q
 present-append (x ∷ xs) ys p q = (p.0, present-append xs ys p.1 q)
 
-falling_order-present : (x y : Datum) → is_present x ≡ true → is_present y ≡ true → falling_order x y ≡ value_order y x
+falling_order-present : (x y : Datum) → is_non_null x ≡ true → is_non_null y ≡ true → falling_order x y ≡ value_order y x
 falling_order-present (boolean a) (boolean b) p q = refl
 falling_order-present (boolean a) (whole n) p q = refl
 falling_order-present (boolean a) (text s) p q = refl
@@ -278,10 +278,10 @@ falling_order-present (text s) (text t) p q = refl
 falling_order-present null y p q = cc
 falling_order-present x null p q = cc
 
-above : (x y : Datum) → is_present x ≡ true → is_present y ≡ true → is_gt (value_order x y) ≡ is_lt (falling_order x y)
+above : (x y : Datum) → is_non_null x ≡ true → is_non_null y ≡ true → is_gt (value_order x y) ≡ is_lt (falling_order x y)
 above x y p q = sym (turned value_total value_antisymmetric null_last x y) ∙ ap is_lt (sym (falling_order-present x y p q))
 
-value-present : (x : Value) → x ≢ v.Null → is_present (datum_of x) ≡ true
+value-present : (x : Value) → x ≢ v.Null → is_non_null (datum_of x) ≡ true
 value-present (v.Bool b) h = refl
 value-present (v.Int n) h = refl
 value-present (v.Text s) h = refl
@@ -291,7 +291,7 @@ value-present v.Null h = absurd (h refl)
 pub above-shown : (x y : Value) → x ≢ v.Null → y ≢ v.Null → is_gt (value_order (datum_of x) (datum_of y)) ≡ is_lt (falling_order (datum_of x) (datum_of y))
 above-shown x y h k = above (datum_of x) (datum_of y) (value-present x h) (value-present y k)
 
-all-above : (z : Datum) (xs : List Datum) → is_present z ≡ true → ArePresent xs → list_all (λ y. not (is_gt (value_order y z))) xs ≡ list_all (λ y. not (is_lt (falling_order y z))) xs
+all-above : (z : Datum) (xs : List Datum) → is_non_null z ≡ true → ArePresent xs → list_all (λ y. not (is_gt (value_order y z))) xs ≡ list_all (λ y. not (is_lt (falling_order y z))) xs
 all-above z [] p q = refl
 all-above z (x ∷ xs) p q = λ i. not (above x z q.0 p i) && all-above z xs p q.1 i
 
@@ -299,15 +299,15 @@ find-above : (ys xs : List Datum) → ArePresent ys → ArePresent xs → find (
 find-above [] xs p q = refl
 find-above (y ∷ ys) xs p q = λ i. cond (all-above y xs p.0 q i) (Some y) (find-above ys xs p.1 q i)
 
-greatest-picked : (xs : List Datum) → ArePresent xs → greatest xs ≡ picked falling_total falling_antisymmetric falling_last xs
+greatest-picked : (xs : List Datum) → ArePresent xs → maximum xs ≡ picked falling_total falling_antisymmetric falling_last xs
 greatest-picked xs p = ap (λ r. unwrap_or r null) (find-above xs xs p p)
 
-pub greatest-append : (xs ys : List Datum) → ArePresent xs → ArePresent ys → greatest (xs ++ ys) ≡ first_by falling_order (greatest xs) (greatest ys)
+pub greatest-append : (xs ys : List Datum) → ArePresent xs → ArePresent ys → maximum (xs ++ ys) ≡ first_by falling_order (maximum xs) (maximum ys)
 greatest-append xs ys p q = greatest-picked (xs ++ ys) (present-append xs ys p q)
     ∙ picked-append falling_total falling_antisymmetric falling_last xs ys
     ∙ (λ i. first_by falling_order (sym (greatest-picked xs p) i) (sym (greatest-picked ys q) i))
 
-pub greatest-one : (d : Datum) → greatest (present (d ∷ [])) ≡ d
+pub greatest-one : (d : Datum) → maximum (non_null (d ∷ [])) ≡ d
 greatest-one (boolean b) = greatest-picked (boolean b ∷ []) (refl, tt) ∙ picked-one falling_total falling_antisymmetric falling_last (boolean b)
 greatest-one (whole n) = greatest-picked (whole n ∷ []) (refl, tt) ∙ picked-one falling_total falling_antisymmetric falling_last (whole n)
 greatest-one (text s) = greatest-picked (text s ∷ []) (refl, tt) ∙ picked-one falling_total falling_antisymmetric falling_last (text s)

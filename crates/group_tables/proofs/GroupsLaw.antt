@@ -9,14 +9,14 @@ use Rattle.std.specs.FinMap as fin
 use Rattle.semantics.specs.Values.{whole}
 use Rattle.semantics.specs.declared.function.ColumnFunction.{ColumnFunction}
 use Rattle.semantics.specs.declared.function.ColumnFunction.TheVariants as function
-use Rattle.semantics.specs.Groups.{Row, Key, project, key_order, same_key, keys, members}
+use Rattle.semantics.specs.Groups.{Record, Key, project, key_order, same_key, keys, members}
 use Rattle.semantics.specs.Aggregates.{column_numbers, column_values, AggregateFunction, plain, agg, value_over, filtered_rows, total, sum_of, average_of}
 use Rattle.group_tables.specs.Inside.Accumulator.{summary}
 use Rattle.group_tables.specs.Accumulator.{accumulator_state, state_over, state_counted, state_by, summed, averaged}
 use Rattle.group_tables.specs.Group.{GroupState, group_state}
 use Rattle.group_tables.specs.Inside.Group.{state_summary}
 use Rattle.group_tables.specs.Table.{Contents, IsTableOf, group_over, table_of}
-use Rattle.semantics.specs.Found.{group_summary}
+use Rattle.semantics.specs.ResultRows.{group_summary}
 use Rattle.group_tables.specs.GroupSummaries.{group_summaries}
 use Rattle.group_tables.specs.Bags.{SameBag}
 use Rattle.group_tables.proofs.Bags.{sum_by-map}
@@ -34,7 +34,7 @@ average-said : (lines : ℕ) (ns : List ℤ) → summary lines (averaged (total 
 average-said lines [] = refl
 average-said lines (n ∷ ns) = refl
 
-summary-over : (f : ColumnFunction) (rows : List Row) → summary (length rows) (state_over f rows) ≡ value_over f rows
+summary-over : (f : ColumnFunction) (rows : List Record) → summary (length rows) (state_over f rows) ≡ value_over f rows
 summary-over function.CountRows rows = refl
 summary-over (function.Count place) rows = refl
 summary-over (function.CountDistinct place) rows = ap (λ n. plain (whole (pos n))) (len-distinct (column_values place rows))
@@ -44,7 +44,7 @@ summary-over (function.Max place) rows = refl
 summary-over (function.Avg place) rows = average-said (length rows) (column_numbers place rows)
 
 -- of the records that a filter keeps, whatever the number of all
-summary-counted : (lines : ℕ) (f : ColumnFunction) (rows : List Row) → summary lines (state_counted f rows) ≡ value_over f rows
+summary-counted : (lines : ℕ) (f : ColumnFunction) (rows : List Record) → summary lines (state_counted f rows) ≡ value_over f rows
 summary-counted lines function.CountRows rows = refl
 summary-counted lines (function.Count place) rows = refl
 summary-counted lines (function.CountDistinct place) rows = ap (λ n. plain (whole (pos n))) (len-distinct (column_values place rows))
@@ -53,15 +53,15 @@ summary-counted lines (function.Min place) rows = refl
 summary-counted lines (function.Max place) rows = refl
 summary-counted lines (function.Avg place) rows = average-said lines (column_numbers place rows)
 
-summary-by : (t : Option (Row → Bool)) (f : ColumnFunction) (rows : List Row) → summary (length rows) (state_by t f rows) ≡ value_over f (filtered_rows t rows)
+summary-by : (t : Option (Record → Bool)) (f : ColumnFunction) (rows : List Record) → summary (length rows) (state_by t f rows) ≡ value_over f (filtered_rows t rows)
 summary-by None f rows = summary-over f rows
 summary-by (Some keeps) f rows = summary-counted (length rows) f (filter keeps rows)
 
-cells-accumulator_state : (fs : List AggregateFunction) (rows : List Row) → map (summary (length rows)) (map (λ f. accumulator_state f rows) fs) ≡ map (λ f. agg f rows) fs
+cells-accumulator_state : (fs : List AggregateFunction) (rows : List Record) → map (summary (length rows)) (map (λ f. accumulator_state f rows) fs) ≡ map (λ f. agg f rows) fs
 cells-accumulator_state [] rows = refl
 cells-accumulator_state (f ∷ fs) rows = λ i. summary-by f.filter f.function rows i ∷ cells-accumulator_state fs rows i
 
-group_summary-accumulator_state : (fs : List AggregateFunction) (key : Key) (rows : List Row) → state_summary (key, group_state fs rows) ≡ group_summary fs key rows
+group_summary-accumulator_state : (fs : List AggregateFunction) (key : Key) (rows : List Record) → state_summary (key, group_state fs rows) ≡ group_summary fs key rows
 group_summary-accumulator_state fs key rows = λ i. record { key = key; lines = length rows; cells = cells-accumulator_state fs rows i }
 
 -- ---- the entries of a map as a bag
@@ -107,33 +107,33 @@ found g q (k ∷ ks) = ap (cond (same_key q k) (Some (g k))) (found g q ks)
       | false ↦ λ e. refl
     ] refl
 
-pub table_of-is : (set : List ℕ) (fs : List AggregateFunction) (rows : List Row) → IsTableOf set fs (table_of set fs rows) rows
+pub table_of-is : (set : List ℕ) (fs : List AggregateFunction) (rows : List Record) → IsTableOf set fs (table_of set fs rows) rows
 table_of-is set fs rows = λ key.
     fin.get-from_entries key_total (map (group_over set fs rows) (keys set rows)) key
     ∙ found (λ k. group_state fs (members set k rows)) key (keys set rows)
 
 -- and no other table is
-pub table-is : (set : List ℕ) (fs : List AggregateFunction) (t : Contents) (rows : List Row) → IsTableOf set fs t rows → t ≡ table_of set fs rows
+pub table-is : (set : List ℕ) (fs : List AggregateFunction) (t : Contents) (rows : List Record) → IsTableOf set fs t rows → t ≡ table_of set fs rows
 table-is set fs t rows h = fin.same_map key_total key_antisymmetric _ _ (λ q.
     h q ∙ sym (found (λ k. group_state fs (members set k rows)) q (keys set rows))
     ∙ sym (fin.get-from_entries key_total (map (group_over set fs rows) (keys set rows)) q))
 
-pub keys-distinct : (set : List ℕ) (rows : List Row) → IsDistinct same_key (keys set rows)
+pub keys-distinct : (set : List ℕ) (rows : List Record) → IsDistinct same_key (keys set rows)
 unfolding IsDistinct
 keys-distinct [] rows = (tt, tt)
 keys-distinct (p ∷ ps) rows = distinct-is same_key (map (project (p ∷ ps)) rows)
 
 -- the keys of the entries of some keys are these
-pub firsts : (set : List ℕ) (fs : List AggregateFunction) (rows : List Row) (ks : List Key) → ks ≡ map (λ e. e.0) (map (group_over set fs rows) ks)
+pub firsts : (set : List ℕ) (fs : List AggregateFunction) (rows : List Record) (ks : List Key) → ks ≡ map (λ e. e.0) (map (group_over set fs rows) ks)
 firsts set fs rows [] = refl
 firsts set fs rows (k ∷ ks) = ap (λ xs. k ∷ xs) (firsts set fs rows ks)
 
-group_summaries-accumulator_state : (set : List ℕ) (fs : List AggregateFunction) (rows : List Row) (ks : List Key) → map state_summary (map (group_over set fs rows) ks) ≡ map (λ k. group_summary fs k (members set k rows)) ks
+group_summaries-accumulator_state : (set : List ℕ) (fs : List AggregateFunction) (rows : List Record) (ks : List Key) → map state_summary (map (group_over set fs rows) ks) ≡ map (λ k. group_summary fs k (members set k rows)) ks
 group_summaries-accumulator_state set fs rows [] = refl
 group_summaries-accumulator_state set fs rows (k ∷ ks) = λ i. group_summary-accumulator_state fs k (members set k rows) i ∷ group_summaries-accumulator_state set fs rows ks i
 
 -- the lines of distinct entries, whose map is a table of records, are those of the records' groups
-pub lines-bag : (set : List ℕ) (fs : List AggregateFunction) (rows : List Row) (es : List (Key × GroupState)) (t : Contents) → fin.from_entries es ≡ t → IsTableOf set fs t rows
+pub lines-bag : (set : List ℕ) (fs : List AggregateFunction) (rows : List Record) (es : List (Key × GroupState)) (t : Contents) → fin.from_entries es ≡ t → IsTableOf set fs t rows
     → IsDistinct same_key (map (λ e. e.0) es) → SameBag (map state_summary es) (group_summaries set fs rows)
 lines-bag set fs rows es t v h d f =
     let ks = keys set rows in

@@ -1,7 +1,7 @@
 -- The groups of shards that are finished one by one, put together.
 use Rattle.std.proofs.Common.{Result, Ok, IfOk, ◌≡◌, ◌<◌, ℕ, suc, List, [], ◌∷◌, ◌++◌, length, map, get_or, Vec, Global, refl, sym, ap, subst, ◌∙◌, append-nil, append_assoc, arith}
 use Rattle.std.specs.declared.alloc.AllocError.{AllocError}
-use Rattle.semantics.specs.Found.{GroupSummary}
+use Rattle.semantics.specs.ResultRows.{GroupSummary}
 use Rattle.group_tables.specs.GroupSummaries.{group_summary_in}
 use Rattle.group_tables.specs.Inside.GroupsOfShards.{AreGroupsOfEach, AreGroupsOfShard}
 use Rattle.group_tables.specs.Shards.{all_entries, entries_in}

@@ -3,7 +3,7 @@ use Rattle.std.proofs.Common.{◌≡◌, ◌+◌, ℕ, true, false, cond, List, 
 use Rattle.std.specs.FinMap as fin
 use Rattle.std.specs.Option.{option_map_or}
 use Rattle.semantics.specs.Aggregates.{AggregateFunction}
-use Rattle.semantics.specs.Groups.{Key, Row, key_order, same_key}
+use Rattle.semantics.specs.Groups.{Key, Record, key_order, same_key}
 use Rattle.group_tables.specs.Accumulator.{AccumulatorState, nothing, counted, summed, averaged, collected, lowest, highest, joint_state}
 use Rattle.group_tables.specs.Group.{GroupState, joint_group, joint_states}
 use Rattle.group_tables.specs.Table.{CanJoin, Contents, HasGroupsOfBoth, IsFitting, both_tables, joint_entry, joint_option, table_of}
@@ -89,7 +89,7 @@ both_tables-flip t u fit =
 -- ---- tables of records
 
 -- the table of the records of two tables is both, put together
-pub table_of-append : (set : List ℕ) (functions : List AggregateFunction) (rows more : List Row)
+pub table_of-append : (set : List ℕ) (functions : List AggregateFunction) (rows more : List Record)
     → table_of set functions (rows ++ more) ≡ both_tables (table_of set functions rows) (table_of set functions more)
 table_of-append set functions rows more =
     let first = table_of set functions rows in

@@ -7,7 +7,7 @@ use Rattle.semantics.specs.declared.function.ColumnFunction.{ColumnFunction}
 use Rattle.semantics.specs.declared.function.ColumnFunction.TheVariants as function
 use Rattle.query_resolve.specs.declared.function.FilteredFunction.{FilteredFunction}
 use Rattle.group_tables.specs.declared.accumulator.Accumulator.{Accumulator}
-use Rattle.semantics.specs.Groups.{Row, value_at}
+use Rattle.semantics.specs.Groups.{Record, value_at}
 use Rattle.group_tables.specs.Rows.{IsNarrow, IsNarrowRow}
 use Rattle.group_tables.specs.Accumulator.{AccumulatorState, nothing, counted, summed, averaged, collected, lowest, highest, state_over, joint_state}
 use Rattle.group_tables.specs.Inside.Accumulator.{no_state, with_value, with_count, with_record, with_member, is_marked, state_in, HasRoom, IsWithin, IsUnbounded}
@@ -92,7 +92,7 @@ pub more-sound : (a b : ℕ) (ks : List AccumulatorState) → IsSound a ks → I
 more-sound a b [] s = tt
 more-sound a b (k ∷ ks) s = (more-within a b k s.0, more-sound a b ks s.1)
 
-value_at-narrow : (place : ℕ) (row : Row) → IsNarrowRow row → IsNarrow (value_at place row)
+value_at-narrow : (place : ℕ) (row : Record) → IsNarrowRow row → IsNarrow (value_at place row)
 value_at-narrow place [] n = tt
 value_at-narrow zero (d ∷ row) n = n.0
 value_at-narrow (suc place) (d ∷ row) n = value_at-narrow place row n.1
@@ -106,7 +106,7 @@ with_count-within lines (collected s) w = tt
 with_count-within lines (lowest k) w = tt
 with_count-within lines (highest k) w = tt
 
-with_record-within : (lines : ℕ) (f : ColumnFunction) (k : AccumulatorState) (row : Row) → IsWithin lines k → IsNarrowRow row → IsWithin (lines + 1) (with_record f k row)
+with_record-within : (lines : ℕ) (f : ColumnFunction) (k : AccumulatorState) (row : Record) → IsWithin lines k → IsNarrowRow row → IsWithin (lines + 1) (with_record f k row)
 with_record-within lines function.CountRows k row w n = with_count-within lines k w
 with_record-within lines (function.Count place) k row w n = with_value-within lines k (value_at place row) w (value_at-narrow place row n)
 with_record-within lines (function.CountDistinct place) k row w n = with_value-within lines k (value_at place row) w (value_at-narrow place row n)
@@ -115,11 +115,11 @@ with_record-within lines (function.Min place) k row w n = with_value-within line
 with_record-within lines (function.Max place) k row w n = with_value-within lines k (value_at place row) w (value_at-narrow place row n)
 with_record-within lines (function.Avg place) k row w n = with_value-within lines k (value_at place row) w (value_at-narrow place row n)
 
-with_member-within : (lines : ℕ) (kept : Bool) (f : ColumnFunction) (k : AccumulatorState) (row : Row) → IsWithin lines k → IsNarrowRow row → IsWithin (lines + 1) (with_member kept f k row)
+with_member-within : (lines : ℕ) (kept : Bool) (f : ColumnFunction) (k : AccumulatorState) (row : Record) → IsWithin lines k → IsNarrowRow row → IsWithin (lines + 1) (with_member kept f k row)
 with_member-within lines true f k row w n = with_record-within lines f k row w n
 with_member-within lines false f k row w n = more-within lines 1 k w
 
-pub all_with_row-sound : (lines : ℕ) (fs : List FilteredFunction) (marks : List Bool) (ks : List AccumulatorState) (row : Row) → IsSound lines ks → IsNarrowRow row
+pub all_with_row-sound : (lines : ℕ) (fs : List FilteredFunction) (marks : List Bool) (ks : List AccumulatorState) (row : Record) → IsSound lines ks → IsNarrowRow row
     → IsSound (lines + 1) (all_with_row fs marks ks row)
 all_with_row-sound lines [] marks ks row s n = more-sound lines 1 ks s
 all_with_row-sound lines (f ∷ fs) marks [] row s n = tt
@@ -155,17 +155,17 @@ none-sound (f ∷ fs) = (none-within f.filter f.function, none-sound fs)
 
 -- ---- one after another: the accumulators from a place on are still to take the record
 
-abbrev pub taken_from : ℕ → List FilteredFunction → List Bool → List AccumulatorState → Row → List AccumulatorState
+abbrev pub taken_from : ℕ → List FilteredFunction → List Bool → List AccumulatorState → Record → List AccumulatorState
 taken_from zero fs marks ks row = all_with_row fs marks ks row
 taken_from (suc n) [] marks ks row = ks
 taken_from (suc n) (f ∷ fs) marks [] row = []
 taken_from (suc n) (f ∷ fs) marks (k ∷ ks) row = k ∷ taken_from n fs marks ks row
 
 -- what one function keeps after one more record
-abbrev pub taken_by : FilteredFunction → List Bool → AccumulatorState → Row → AccumulatorState
+abbrev pub taken_by : FilteredFunction → List Bool → AccumulatorState → Record → AccumulatorState
 taken_by f marks k row = with_member (is_marked marks f.filter) f.function k row
 
-pub taken_from-step : (n : ℕ) (fs : List FilteredFunction) (marks : List Bool) (parts : List Accumulator) (row : Row) (f : FilteredFunction) (a b : Accumulator) → n < length fs → n < length parts
+pub taken_from-step : (n : ℕ) (fs : List FilteredFunction) (marks : List Bool) (parts : List Accumulator) (row : Record) (f : FilteredFunction) (a b : Accumulator) → n < length fs → n < length parts
     → a ≡ get_or parts n a → state_in b ≡ taken_by (get_or fs n f) marks (state_in a) row
     → taken_from (suc n) fs marks (map state_in (set parts n b)) row ≡ taken_from n fs marks (map state_in parts) row
 taken_from-step zero [] marks parts row f a b h i e k = absurd (omega arith)
@@ -175,17 +175,17 @@ taken_from-step (suc n) [] marks parts row f a b h i e k = absurd (omega arith)
 taken_from-step (suc n) (g ∷ fs) marks [] row f a b h i e k = absurd (omega arith)
 taken_from-step (suc n) (g ∷ fs) marks (x ∷ parts) row f a b h i e k = ap (λ js. state_in x ∷ js) (taken_from-step n fs marks parts row f a b (omega arith) (omega arith) e k)
 
-pub taken_from-end : (fs : List FilteredFunction) (marks : List Bool) (ks : List AccumulatorState) (row : Row) → length ks ≡ length fs → taken_from (length fs) fs marks ks row ≡ ks
+pub taken_from-end : (fs : List FilteredFunction) (marks : List Bool) (ks : List AccumulatorState) (row : Record) → length ks ≡ length fs → taken_from (length fs) fs marks ks row ≡ ks
 taken_from-end [] marks ks row e = refl
 taken_from-end (f ∷ fs) marks [] row e = refl
 taken_from-end (f ∷ fs) marks (k ∷ ks) row e = ap (λ js. k ∷ js) (taken_from-end fs marks ks row (omega (arith, e)))
 
-pub taken_from-all : (n : ℕ) (fs : List FilteredFunction) (marks : List Bool) (parts : List Accumulator) (row : Row) (ks : List AccumulatorState) → n ≡ length fs → length parts ≡ length fs
+pub taken_from-all : (n : ℕ) (fs : List FilteredFunction) (marks : List Bool) (parts : List Accumulator) (row : Record) (ks : List AccumulatorState) → n ≡ length fs → length parts ≡ length fs
     → taken_from n fs marks (map state_in parts) row ≡ ks → map state_in parts ≡ ks
 taken_from-all n fs marks parts row ks h e i =
     sym (taken_from-end fs marks (map state_in parts) row (length-map parts state_in ∙ e)) ∙ ap (λ m. taken_from m fs marks (map state_in parts) row) (sym h) ∙ i
 
-pub taken_from-within : (lines n : ℕ) (fs : List FilteredFunction) (marks : List Bool) (parts : List Accumulator) (row : Row) (f : FilteredFunction) (a : Accumulator) → n < length fs → n < length parts
+pub taken_from-within : (lines n : ℕ) (fs : List FilteredFunction) (marks : List Bool) (parts : List Accumulator) (row : Record) (f : FilteredFunction) (a : Accumulator) → n < length fs → n < length parts
     → a ≡ get_or parts n a → IsSound lines (taken_from n fs marks (map state_in parts) row) → IsWithin lines (taken_by (get_or fs n f) marks (state_in a) row)
 taken_from-within lines zero [] marks parts row f a h i e s = absurd (omega arith)
 taken_from-within lines zero (g ∷ fs) marks [] row f a h i e s = absurd (omega arith)
@@ -194,7 +194,7 @@ taken_from-within lines (suc n) [] marks parts row f a h i e s = absurd (omega a
 taken_from-within lines (suc n) (g ∷ fs) marks [] row f a h i e s = absurd (omega arith)
 taken_from-within lines (suc n) (g ∷ fs) marks (x ∷ parts) row f a h i e s = taken_from-within lines n fs marks parts row f a (omega arith) (omega arith) e s.1
 
-pub taken_from-room : (lines n : ℕ) (fs : List FilteredFunction) (marks : List Bool) (parts : List Accumulator) (row : Row) (f : FilteredFunction) (a : Accumulator) → n < length fs → n < length parts
+pub taken_from-room : (lines n : ℕ) (fs : List FilteredFunction) (marks : List Bool) (parts : List Accumulator) (row : Record) (f : FilteredFunction) (a : Accumulator) → n < length fs → n < length parts
     → a ≡ get_or parts n a → lines < 2 ^ 63 → IsSound lines (taken_from n fs marks (map state_in parts) row) → HasRoom (taken_by (get_or fs n f) marks (state_in a) row)
 taken_from-room lines n fs marks parts row f a h i e few s = within-room lines _ few (taken_from-within lines n fs marks parts row f a h i e s)
 

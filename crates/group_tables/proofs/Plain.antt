@@ -7,7 +7,7 @@ use Rattle.std.specs.List.{AllByRecursion, list_any}
 use Rattle.std.specs.List.Sorted.{IsStrictlySortedBy}
 use Rattle.semantics.specs.Aggregates.{AggregateFunction, column_values, same_value}
 use Rattle.semantics.specs.Columns.{Field}
-use Rattle.semantics.specs.Groups.{Row}
+use Rattle.semantics.specs.Groups.{Record}
 use Rattle.semantics.specs.Names.{distinct}
 use Rattle.semantics.specs.Values.{Datum, value_order}
 use Rattle.semantics.specs.declared.function.ColumnFunction.{ColumnFunction}
@@ -60,7 +60,7 @@ set-back values = set.same_set value_total value_antisymmetric (set_of (ascendin
 
 -- ---- the states of set functions over records
 
-plain-by : (t : Option (Row → Bool)) (f : ColumnFunction) (rows : List Row) → plain_state (state_by t f rows) ≡ state.state_by t f rows
+plain-by : (t : Option (Record → Bool)) (f : ColumnFunction) (rows : List Record) → plain_state (state_by t f rows) ≡ state.state_by t f rows
 plain-by None function.CountRows rows = refl
 plain-by None (function.Count place) rows = refl
 plain-by None (function.CountDistinct place) rows = ap state.collected (ascending-different (column_values place rows))
@@ -76,14 +76,14 @@ plain-by (Some keeps) (function.Min place) rows = refl
 plain-by (Some keeps) (function.Max place) rows = refl
 plain-by (Some keeps) (function.Avg place) rows = refl
 
-pub plain-states : (fs : List AggregateFunction) (rows : List Row) → map plain_state (map (λ f. accumulator_state f rows) fs) ≡ map (λ f. function_state f rows) fs
+pub plain-states : (fs : List AggregateFunction) (rows : List Record) → map plain_state (map (λ f. accumulator_state f rows) fs) ≡ map (λ f. function_state f rows) fs
 plain-states [] rows = refl
 plain-states (f ∷ fs) rows = λ i. plain-by f.filter f.function rows i ∷ plain-states fs rows i
 
 -- ---- what is kept is told by its plain state
 
 -- of the records
-kept-by : (t : Option (Row → Bool)) (f : ColumnFunction) (rows : List Row) → kept_state f (plain_state (state_by t f rows)) ≡ state_by t f rows
+kept-by : (t : Option (Record → Bool)) (f : ColumnFunction) (rows : List Record) → kept_state f (plain_state (state_by t f rows)) ≡ state_by t f rows
 kept-by None function.CountRows rows = refl
 kept-by None (function.Count place) rows = refl
 kept-by None (function.CountDistinct place) rows = ap collected (set-back (set_of (column_values place rows)))
@@ -148,7 +148,7 @@ kept-typed fields (Some i) (function.Min place) (highest d) h = elim h [ ]
 kept-typed fields (Some i) (function.Avg place) (highest d) h = elim h [ ]
 
 -- states of the functions' types, of which the plain ones are those over some records, are what is kept of these
-pub states-told : (fields : List Field) (functions : List FilteredFunction) (filters : List (Row → Bool)) (rows : List Row) (parts : List AccumulatorState)
+pub states-told : (fields : List Field) (functions : List FilteredFunction) (filters : List (Record → Bool)) (rows : List Record) (parts : List AccumulatorState)
     → AreStatesOf fields functions parts → map plain_state parts ≡ map (λ f. function_state f rows) (aggregates_of filters functions)
     → parts ≡ map (λ f. accumulator_state f rows) (aggregates_of filters functions)
 states-told fields [] filters rows [] h e = refl

@@ -6,7 +6,7 @@ use Rattle.std.specs.List.{list_any, IsDistinct, AllByRecursion}
 use Rattle.std.specs.Map.{keys_of}
 use Rattle.std.specs.FinMap as fin
 use Rattle.query_resolve.specs.declared.function.FilteredFunction.{FilteredFunction}
-use Rattle.semantics.specs.Groups.{Row, Key, project, key_order, same_key, members}
+use Rattle.semantics.specs.Groups.{Record, Key, project, key_order, same_key, members}
 use Rattle.semantics.specs.Aggregates.{AggregateFunction}
 use Rattle.group_tables.specs.Functions.{aggregate_of}
 use Rattle.group_tables.specs.Group.{GroupState, group_state, joint_group}
@@ -37,7 +37,7 @@ or-and false b = refl
 
 -- ---- the members of one key of the finer set, as records of the other set
 
-any-rolled : (finer set : List ℕ) (k q : Key) (rows : List Row) → AreAmong set finer
+any-rolled : (finer set : List ℕ) (k q : Key) (rows : List Record) → AreAmong set finer
     → list_any (same_key k) (map (project set) (members finer q rows)) ≡ (same_key k (rolled_key finer set q) && list_any (same_key q) (map (project finer) rows))
 any-rolled finer set k q [] a = elim (same_key k (rolled_key finer set q)) as (λ b. false ≡ (b && false)) [ true ↦ refl | false ↦ refl ]
 any-rolled finer set k q (row ∷ rows) a =
@@ -51,7 +51,7 @@ any-rolled finer set k q (row ∷ rows) a =
       | false ↦ λ e. any-rolled finer set k q rows a
     ] refl
 
-has_key-rolled : (finer set : List ℕ) (k q : Key) (rows : List Row) → AreAmong set finer → has_key finer q rows ≡ true
+has_key-rolled : (finer set : List ℕ) (k q : Key) (rows : List Record) → AreAmong set finer → has_key finer q rows ≡ true
     → has_key set k (members finer q rows) ≡ same_key k (rolled_key finer set q)
 has_key-rolled finer [] k q rows a h = or-false (same_key k [])
 has_key-rolled [] (s ∷ ss) k q rows a h = let n : false ≡ true = a.0 in cc
@@ -61,11 +61,11 @@ has_key-rolled (f ∷ fs) (s ∷ ss) k q rows a h =
     ∙ ap (λ b. same_key k (rolled_key (f ∷ fs) (s ∷ ss) q) && b) (sym (any-key q (map (project (f ∷ fs)) rows)) ∙ h)
     ∙ and-true (same_key k (rolled_key (f ∷ fs) (s ∷ ss) q))
 
-cond-both : (fs : List AggregateFunction) (c : Bool) (m : List Row) → cond c (Some (group_state fs (cond c m []))) None ≡ cond c (Some (group_state fs m)) None
+cond-both : (fs : List AggregateFunction) (c : Bool) (m : List Record) → cond c (Some (group_state fs (cond c m []))) None ≡ cond c (Some (group_state fs m)) None
 cond-both fs true m = refl
 cond-both fs false m = refl
 
-group_at-rolled : (finer set : List ℕ) (fs : List AggregateFunction) (k q : Key) (rows : List Row) → AreAmong set finer → has_key finer q rows ≡ true
+group_at-rolled : (finer set : List ℕ) (fs : List AggregateFunction) (k q : Key) (rows : List Record) → AreAmong set finer → has_key finer q rows ≡ true
     → group_at set fs k (members finer q rows) ≡ cond (same_key k (rolled_key finer set q)) (Some (group_state fs (members finer q rows))) None
 group_at-rolled finer set fs k q rows a h =
     (λ i. cond (has_key-rolled finer set k q rows a h i) (Some (group_state fs (members-rolled finer set k q rows a i))) None)
@@ -78,18 +78,18 @@ group-there true x h e = (refl, ap (λ o. unwrap_or o x) e)
 group-there false x h e = cc
 
 -- a group of a table is that of the members of its key
-group-of : (set : List ℕ) (fs : List AggregateFunction) (t : Contents) (rows : List Row) (q : Key) (h : GroupState) → IsTableOf set fs t rows → fin.get t q ≡ Some h
+group-of : (set : List ℕ) (fs : List AggregateFunction) (t : Contents) (rows : List Record) (q : Key) (h : GroupState) → IsTableOf set fs t rows → fin.get t q ≡ Some h
     → (has_key set q rows ≡ true) × (group_state fs (members set q rows) ≡ h)
 group-of set fs t rows q h a e = group-there (has_key set q rows) (group_state fs (members set q rows)) h (sym (a q) ∙ e)
 
-group_with_members-at : (functions : List FilteredFunction) (fs : List AggregateFunction) (c : Bool) (o : Option GroupState) (m : List Row) → no_group functions ≡ group_state fs []
+group_with_members-at : (functions : List FilteredFunction) (fs : List AggregateFunction) (c : Bool) (o : Option GroupState) (m : List Record) → no_group functions ≡ group_state fs []
     → cond c (Some (group_with_members functions o (group_state fs m))) o ≡ joint_option o (cond c (Some (group_state fs m)) None)
 group_with_members-at functions fs true None m e = ap (λ g. Some (joint_group g (group_state fs m))) e ∙ ap Some (sym (group_state-append fs [] m))
 group_with_members-at functions fs true (Some g) m e = refl
 group_with_members-at functions fs false None m e = refl
 group_with_members-at functions fs false (Some g) m e = refl
 
-pub table-group_with_members : (finer set : List ℕ) (functions : List FilteredFunction) (filters : List (Row → Bool)) (t old new : Contents) (rows done : List Row) (q : Key) (h : GroupState)
+pub table-group_with_members : (finer set : List ℕ) (functions : List FilteredFunction) (filters : List (Record → Bool)) (t old new : Contents) (rows done : List Record) (q : Key) (h : GroupState)
     → AreAmong set finer → IsTableOf finer (map (aggregate_of filters) functions) t rows → fin.get t q ≡ Some h → IsTableOf set (map (aggregate_of filters) functions) old done
     → ((k : Key) → IsEnlarged functions old new (rolled_key finer set q) h k) → IsTableOf set (map (aggregate_of filters) functions) new (done ++ members finer q rows)
 table-group_with_members finer set functions filters t old new rows done q h a is e b j k =
@@ -118,14 +118,14 @@ find-any q (x ∷ es) h e =
     ] e
 
 -- all keys of the records are among those of the entries
-entries-cover : (set : List ℕ) (fs : List AggregateFunction) (es : Entries) (t : Contents) (rows : List Row) → contents_of es ≡ t → IsTableOf set fs t rows
+entries-cover : (set : List ℕ) (fs : List AggregateFunction) (es : Entries) (t : Contents) (rows : List Record) → contents_of es ≡ t → IsTableOf set fs t rows
     → (q : Key) → list_any (same_key q) (map (project set) rows) ≡ true → list_any (same_key q) (firsts es) ≡ true
 entries-cover set fs es t rows v is q h =
     find-any q es (group_state fs (members set q rows))
     (sym (fin.get-from_entries key_total (entries_by_key es) q) ∙ ap (λ m. fin.get m q) v ∙ is q
     ∙ ap (λ b. cond b (Some (group_state fs (members set q rows))) None) (own-key set q rows h))
 
-pub spread-entries : (set : List ℕ) (fs : List AggregateFunction) (es : Entries) (t : Contents) (rows : List Row) → contents_of es ≡ t → IsDistinct key_eq (keys_of es)
+pub spread-entries : (set : List ℕ) (fs : List AggregateFunction) (es : Entries) (t : Contents) (rows : List Record) → contents_of es ≡ t → IsDistinct key_eq (keys_of es)
     → IsTableOf set fs t rows → SameBag (spread set rows (firsts es)) rows
 spread-entries set fs es t rows v d is = spread-bag set (firsts es) (distinct-shown es d) rows (entries-cover set fs es t rows v is)
 
@@ -163,12 +163,12 @@ get-each es t v d = all-got es es t v (find-each es d)
 -- ---- the walk over them
 
 -- the table is that of some records, which with the members of the keys that are left are those of all keys
-pub record IsRolled (finer set : List ℕ) (fs : List AggregateFunction) (table : Contents) (left all : Entries) (rows : List Row) : Type 0 where
-  pub done : List Row
+pub record IsRolled (finer set : List ℕ) (fs : List AggregateFunction) (table : Contents) (left all : Entries) (rows : List Record) : Type 0 where
+  pub done : List Record
   pub is_table : IsTableOf set fs table done
   pub whole : done ++ spread finer rows (firsts left) ≡ spread finer rows (firsts all)
 
-pub rolled-step : (finer set : List ℕ) (functions : List FilteredFunction) (filters : List (Row → Bool)) (t old new : Contents) (e : PackedKey × GroupState) (left all : Entries) (rows : List Row)
+pub rolled-step : (finer set : List ℕ) (functions : List FilteredFunction) (filters : List (Record → Bool)) (t old new : Contents) (e : PackedKey × GroupState) (left all : Entries) (rows : List Record)
     → AreAmong set finer → IsTableOf finer (map (aggregate_of filters) functions) t rows → fin.get t (key_in e.0) ≡ Some e.1
     → ((k : Key) → IsEnlarged functions old new (rolled_key finer set (key_in e.0)) e.1 k)
     → IsRolled finer set (map (aggregate_of filters) functions) old (e ∷ left) all rows → IsRolled finer set (map (aggregate_of filters) functions) new left all rows
@@ -178,26 +178,26 @@ rolled-step finer set functions filters t old new e left all rows a is g j r = r
   whole = append_assoc r.done (members finer (key_in e.0) rows) (spread finer rows (firsts left)) ∙ r.whole;
 }
 
-pub rolled-all : (finer set : List ℕ) (fs : List AggregateFunction) (t table : Contents) (left all : Entries) (rows : List Row) → contents_of all ≡ t → IsDistinct key_eq (keys_of all) → left ≡ []
+pub rolled-all : (finer set : List ℕ) (fs : List AggregateFunction) (t table : Contents) (left all : Entries) (rows : List Record) → contents_of all ≡ t → IsDistinct key_eq (keys_of all) → left ≡ []
     → IsTableOf finer fs t rows → IsRolled finer set fs table left all rows → IsTableOf set fs table rows
 rolled-all finer set fs t table left all rows v d none is r =
     table-same set fs table (spread finer rows (firsts all)) rows (spread-entries finer fs all t rows v d is)
-    (subst (λ (xs : List Row). IsTableOf set fs table xs)
+    (subst (λ (xs : List Record). IsTableOf set fs table xs)
     (sym (append-nil r.done) ∙ ap (λ es. r.done ++ spread finer rows (firsts es)) (sym none) ∙ r.whole) r.is_table)
 
 -- ---- all groups, put to one
 
-members-all : (rows : List Row) → members [] [] rows ≡ rows
+members-all : (rows : List Record) → members [] [] rows ≡ rows
 members-all [] = refl
 members-all (row ∷ rows) = ap (λ xs. row ∷ xs) (members-all rows)
 
-group_state-bag : (fs : List AggregateFunction) (l m : List Row) → SameBag l m → group_state fs l ≡ group_state fs m
+group_state-bag : (fs : List AggregateFunction) (l m : List Record) → SameBag l m → group_state fs l ≡ group_state fs m
 group_state-bag fs l m s =
     ap (group_state fs) (sym (members-all l))
     ∙ ap (λ (o : Option GroupState). unwrap_or o (group_state fs [])) (group_at-bag [] fs [] l m s)
     ∙ ap (group_state fs) (members-all m)
 
-joined-spread : (finer : List ℕ) (fs : List AggregateFunction) (t : Contents) (rows done : List Row) (es : Entries) → IsTableOf finer fs t rows
+joined-spread : (finer : List ℕ) (fs : List AggregateFunction) (t : Contents) (rows done : List Record) (es : Entries) → IsTableOf finer fs t rows
     → AllByRecursion (λ e. fin.get t (key_in e.0) ≡ Some e.1) es → group_with_entries (group_state fs done) es ≡ group_state fs (done ++ spread finer rows (firsts es))
 joined-spread finer fs t rows done [] is each = ap (group_state fs) (sym (append-nil done))
 joined-spread finer fs t rows done (e ∷ es) is each =
@@ -216,17 +216,17 @@ pub takes-append : (g : GroupState) (xs ys : Entries) → TakesEach g (xs ++ ys)
 takes-append g [] ys h = (tt, h)
 takes-append g (x ∷ xs) ys h = let more = takes-append (joint_group g x.1) xs ys h.2 in ((h.0, h.1, more.0), more.1)
 
-all-kept : (rows : List Row) → filter (λ (row : Row). true) rows ≡ rows
+all-kept : (rows : List Record) → filter (λ (row : Record). true) rows ≡ rows
 all-kept [] = refl
-all-kept (row ∷ rows) = ap (λ (xs : List Row). row ∷ xs) (all-kept rows)
+all-kept (row ∷ rows) = ap (λ (xs : List Record). row ∷ xs) (all-kept rows)
 
-one-at : (fs : List AggregateFunction) (b : Bool) (group : GroupState) (rows : List Row) → group ≡ group_state fs rows
-    → cond b (Some group) None ≡ cond (b || false) (Some (group_state fs (filter (λ (row : Row). b) rows))) None
+one-at : (fs : List AggregateFunction) (b : Bool) (group : GroupState) (rows : List Record) → group ≡ group_state fs rows
+    → cond b (Some group) None ≡ cond (b || false) (Some (group_state fs (filter (λ (row : Record). b) rows))) None
 one-at fs true group rows is = ap Some (is ∙ ap (group_state fs) (sym (all-kept rows)))
 one-at fs false group rows is = refl
 
 -- a table with one group, of the empty key
-table-of_one : (fs : List AggregateFunction) (t : Contents) (group : GroupState) (rows : List Row) → group ≡ group_state fs rows → ((k : Key) → IsPut fin.empty t [] group k) → IsTableOf [] fs t rows
+table-of_one : (fs : List AggregateFunction) (t : Contents) (group : GroupState) (rows : List Record) → group ≡ group_state fs rows → ((k : Key) → IsPut fin.empty t [] group k) → IsTableOf [] fs t rows
 table-of_one fs t group rows is h k =
     h k
     ∙ ap (λ (o : Option GroupState). cond (same_key k []) (joint_option o (Some group)) o) (fin.get-empty key_order k)
@@ -245,7 +245,7 @@ whole-one t group h =
     subst (λ (o : Option GroupState). IsSome o) (sym at) (put-there none group)
 
 -- what all groups of a table come to is the one group of the empty set
-pub rolled-to_one : (finer : List ℕ) (functions : List FilteredFunction) (filters : List (Row → Bool)) (t table : Contents) (es : Entries) (rows : List Row) → contents_of es ≡ t → IsDistinct key_eq (keys_of es)
+pub rolled-to_one : (finer : List ℕ) (functions : List FilteredFunction) (filters : List (Record → Bool)) (t table : Contents) (es : Entries) (rows : List Record) → contents_of es ≡ t → IsDistinct key_eq (keys_of es)
     → IsTableOf finer (map (aggregate_of filters) functions) t rows → ((k : Key) → IsPut fin.empty table [] (group_with_entries (no_group functions) es) k) → IsTableOf [] (map (aggregate_of filters) functions) table rows
 rolled-to_one finer functions filters t table es rows v d is h =
     let fs = map (aggregate_of filters) functions in
@@ -255,17 +255,17 @@ rolled-to_one finer functions filters t table es rows v d is h =
 
 -- ---- what is kept of a group, by the groups of a finer table
 
-kept-at : (set : List ℕ) (fs : List AggregateFunction) (t : Contents) (rows : List Row) (q : Key) → IsTableOf set fs t rows → group_state fs (members set q rows) ≡ unwrap_or (fin.get t q) (group_state fs [])
+kept-at : (set : List ℕ) (fs : List AggregateFunction) (t : Contents) (rows : List Record) (q : Key) → IsTableOf set fs t rows → group_state fs (members set q rows) ≡ unwrap_or (fin.get t q) (group_state fs [])
 kept-at set fs t rows q is = sym (ap (λ (o : Option GroupState). unwrap_or o (group_state fs [])) (is q) ∙ group_state-at fs (has_key set q rows) (members set q rows) (no_members set q rows))
 
-states-spread : (set : List ℕ) (fs : List AggregateFunction) (t : Contents) (rows : List Row) (qs : List Key) → IsTableOf set fs t rows
+states-spread : (set : List ℕ) (fs : List AggregateFunction) (t : Contents) (rows : List Record) (qs : List Key) → IsTableOf set fs t rows
     → group_state fs (spread set rows qs) ≡ group_of_keys fs t qs
 states-spread set fs t rows [] is = refl
 states-spread set fs t rows (q ∷ qs) is =
     group_state-append fs (members set q rows) (spread set rows qs) ∙ (λ i. joint_group (kept-at set fs t rows q is i) (states-spread set fs t rows qs is i))
 
 -- what is kept of the group of a key is what the finer table keeps of the keys that are rolled to it, put together
-pub group-rolled : (finer set : List ℕ) (fs : List AggregateFunction) (t table : Contents) (key : Key) (group : GroupState) (rows : List Row) → AreAmong set finer
+pub group-rolled : (finer set : List ℕ) (fs : List AggregateFunction) (t table : Contents) (key : Key) (group : GroupState) (rows : List Record) → AreAmong set finer
     → IsTableOf finer fs t rows → IsTableOf set fs table rows → fin.get table key ≡ Some group → group ≡ group_of_keys fs t (finer_keys finer set key rows)
 group-rolled finer set fs t table key group rows a is b e =
     sym ((group-of set fs table rows key group b e).1)

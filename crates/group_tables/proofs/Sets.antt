@@ -11,7 +11,7 @@ use Rattle.semantics.specs.Values.{Datum, whole, text, boolean, null, value_orde
 use Rattle.values.specs.Datum.{data_of, datum_of}
 use Rattle.values.specs.declared.value.Value.{Value}
 use Rattle.semantics.specs.Names.{distinct}
-use Rattle.semantics.specs.Aggregates.{is_present, present, same_value}
+use Rattle.semantics.specs.Aggregates.{is_non_null, non_null, same_value}
 use Rattle.group_tables.specs.Values.{Values, set_of}
 use Rattle.group_tables.specs.Inside.Values.{values_in}
 use Rattle.group_tables.proofs.Order.{value_total, value_antisymmetric, value_eq, value_eq-ties}
@@ -111,14 +111,14 @@ union-one s d = same _ _ (λ q. set.contains-union value_total s (set_of (d ∷ 
     ∙ or-flip (set.contains s q) (same_value q d) ∙ sym (set.contains-insert value_total s d q))
 
 -- with one more value that is not NULL
-pub union-present : (s : Values) (d : Datum) → is_present d ≡ true → set.union s (set_of (present (d ∷ []))) ≡ set.insert s d
+pub union-present : (s : Values) (d : Datum) → is_non_null d ≡ true → set.union s (set_of (non_null (d ∷ []))) ≡ set.insert s d
 union-present s (boolean b) h = union-one s (boolean b)
 union-present s (whole n) h = union-one s (whole n)
 union-present s (text t) h = union-one s (text t)
 union-present s null h = cc
 
 -- where NULL is taken the set stays
-pub union-absent : (s : Values) (d : Datum) → is_present d ≡ false → set.union s (set_of (present (d ∷ []))) ≡ s
+pub union-absent : (s : Values) (d : Datum) → is_non_null d ≡ false → set.union s (set_of (non_null (d ∷ []))) ≡ s
 union-absent s (boolean b) h = cc
 union-absent s (whole n) h = cc
 union-absent s (text t) h = cc

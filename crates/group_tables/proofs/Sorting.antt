@@ -11,37 +11,37 @@ use Rattle.std.specs.List.{AllByRecursion}
 use Rattle.group_tables.specs.Bags.{SameBag}
 use Rattle.group_tables.proofs.Bags.{bag-heads, bag-rests, length-bag}
 use Rattle.group_tables.specs.Ascending.{NoneBefore, Ascends}
-use Rattle.semantics.specs.Order.{insertion, in_order}
+use Rattle.semantics.specs.Order.{inserted_by, sorted_by}
 
 -- ---- sums
 
-sum_by-inserted : {X : Type 0} (order : X → X → Ordering) (f : X → ℕ) (x : X) (ys : List X) → sum_by f (insertion order x ys) ≡ f x + sum_by f ys
+sum_by-inserted : {X : Type 0} (order : X → X → Ordering) (f : X → ℕ) (x : X) (ys : List X) → sum_by f (inserted_by order x ys) ≡ f x + sum_by f ys
 sum_by-inserted order f x [] = sum_by-cons f x []
 sum_by-inserted order f x (y ∷ ys) =
-    elim (is_gt (order x y)) as (λ (b : Bool). sum_by f (cond b (y ∷ insertion order x ys) (x ∷ y ∷ ys)) ≡ f x + sum_by f (y ∷ ys)) [
-      | true ↦ omega (arith, sum_by-cons f y (insertion order x ys), sum_by-inserted order f x ys, sum_by-cons f y ys)
+    elim (is_gt (order x y)) as (λ (b : Bool). sum_by f (cond b (y ∷ inserted_by order x ys) (x ∷ y ∷ ys)) ≡ f x + sum_by f (y ∷ ys)) [
+      | true ↦ omega (arith, sum_by-cons f y (inserted_by order x ys), sum_by-inserted order f x ys, sum_by-cons f y ys)
       | false ↦ sum_by-cons f x (y ∷ ys)
     ]
 
 -- a list in order has the same things
-pub sum_by-in_order : {X : Type 0} (order : X → X → Ordering) (f : X → ℕ) (xs : List X) → sum_by f (in_order order xs) ≡ sum_by f xs
+pub sum_by-in_order : {X : Type 0} (order : X → X → Ordering) (f : X → ℕ) (xs : List X) → sum_by f (sorted_by order xs) ≡ sum_by f xs
 sum_by-in_order order f [] = refl
-sum_by-in_order order f (x ∷ xs) = sum_by-inserted order f x (in_order order xs) ∙ ap (λ (n : ℕ). f x + n) (sum_by-in_order order f xs) ∙ sym (sum_by-cons f x xs)
+sum_by-in_order order f (x ∷ xs) = sum_by-inserted order f x (sorted_by order xs) ∙ ap (λ (n : ℕ). f x + n) (sum_by-in_order order f xs) ∙ sym (sum_by-cons f x xs)
 
 -- ---- what holds of each thing
 
 -- what holds of each thing of a list and of one more holds of each with that one inserted
-all-inserted : {X : Type 0} (order : X → X → Ordering) (P : X → Type 0) (x : X) (ys : List X) → P x → AllByRecursion P ys → AllByRecursion P (insertion order x ys)
+all-inserted : {X : Type 0} (order : X → X → Ordering) (P : X → Type 0) (x : X) (ys : List X) → P x → AllByRecursion P ys → AllByRecursion P (inserted_by order x ys)
 all-inserted order P x [] h all = (h, tt)
 all-inserted order P x (y ∷ ys) h all =
-    elim (is_gt (order x y)) as (λ (b : Bool). AllByRecursion P (cond b (y ∷ insertion order x ys) (x ∷ y ∷ ys))) [
+    elim (is_gt (order x y)) as (λ (b : Bool). AllByRecursion P (cond b (y ∷ inserted_by order x ys) (x ∷ y ∷ ys))) [
       | true ↦ (all.0, all-inserted order P x ys h all.1)
       | false ↦ (h, all)
     ]
 
-pub all-in_order : {X : Type 0} (order : X → X → Ordering) (P : X → Type 0) (xs : List X) → AllByRecursion P xs → AllByRecursion P (in_order order xs)
+pub all-in_order : {X : Type 0} (order : X → X → Ordering) (P : X → Type 0) (xs : List X) → AllByRecursion P xs → AllByRecursion P (sorted_by order xs)
 all-in_order order P [] all = tt
-all-in_order order P (x ∷ xs) all = all-inserted order P x (in_order order xs) all.0 (all-in_order order P xs all.1)
+all-in_order order P (x ∷ xs) all = all-inserted order P x (sorted_by order xs) all.0 (all-in_order order P xs all.1)
 
 -- ---- ascending lists
 
@@ -71,18 +71,18 @@ module _ {X : Type 0} {order : X → X → Ordering} (o : IsTotalOrder order) wh
   none-through x y [] h n = tt
   none-through x y (z ∷ zs) h n = (upto o x y z h n.0, none-through x y zs h n.1)
 
-  ascends-inserted : (x : X) (ys : List X) → Ascends order ys → Ascends order (insertion order x ys)
+  ascends-inserted : (x : X) (ys : List X) → Ascends order ys → Ascends order (inserted_by order x ys)
   ascends-inserted x [] a = (tt, tt)
   ascends-inserted x (y ∷ ys) a =
-      elim (is_gt (order x y)) as (λ (b : Bool). is_gt (order x y) ≡ b → Ascends order (cond b (y ∷ insertion order x ys) (x ∷ y ∷ ys))) [
+      elim (is_gt (order x y)) as (λ (b : Bool). is_gt (order x y) ≡ b → Ascends order (cond b (y ∷ inserted_by order x ys) (x ∷ y ∷ ys))) [
         | true ↦ λ e. (all-inserted order (λ z. is_gt (order y z) ≡ false) x ys (turned_greater (order y x) (order x y) (o.antisymm y x) e) a.0, ascends-inserted x ys a.1)
         | false ↦ λ e. ((e, none-through x y ys e a.0), a)
       ] refl
 
   -- a list in order ascends
-  pub ascends-in_order : (xs : List X) → Ascends order (in_order order xs)
+  pub ascends-in_order : (xs : List X) → Ascends order (sorted_by order xs)
   ascends-in_order [] = tt
-  ascends-in_order (x ∷ xs) = ascends-inserted x (in_order order xs) (ascends-in_order xs)
+  ascends-in_order (x ∷ xs) = ascends-inserted x (sorted_by order xs) (ascends-in_order xs)
 
   -- so does a list that is sorted by a key
   pub ascends-sorted : {Y : Type 0} (key : Y → X) (ys : List Y) → IsSortedBy (λ a b. is_lt (order (key a) (key b))) ys → Ascends order (map key ys)
@@ -107,18 +107,18 @@ module _ {X : Type 0} {order : X → X → Ordering} (o : IsTotalOrder order) wh
   untied-back : (x y : X) → is_eq (order x y) ≡ false → is_eq (order y x) ≡ false
   untied-back x y h = (eq_by_cmp_equiv o).symm y x ∙ h
 
-  apart-inserted : (x : X) (ys : List X) → AllByRecursion (λ y. is_eq (order x y) ≡ false) ys → Apart order ys → Apart order (insertion order x ys)
+  apart-inserted : (x : X) (ys : List X) → AllByRecursion (λ y. is_eq (order x y) ≡ false) ys → Apart order ys → Apart order (inserted_by order x ys)
   apart-inserted x [] all a = (tt, tt)
   apart-inserted x (y ∷ ys) all a =
-      elim (is_gt (order x y)) as (λ (b : Bool). Apart order (cond b (y ∷ insertion order x ys) (x ∷ y ∷ ys))) [
+      elim (is_gt (order x y)) as (λ (b : Bool). Apart order (cond b (y ∷ inserted_by order x ys) (x ∷ y ∷ ys))) [
         | true ↦ (all-inserted order (λ z. is_eq (order y z) ≡ false) x ys (untied-back x y all.0) a.0, apart-inserted x ys all.1 a.1)
         | false ↦ (all, a)
       ]
 
   -- nor do they once the list is in order
-  pub apart-in_order : (xs : List X) → Apart order xs → Apart order (in_order order xs)
+  pub apart-in_order : (xs : List X) → Apart order xs → Apart order (sorted_by order xs)
   apart-in_order [] a = tt
-  apart-in_order (x ∷ xs) a = apart-inserted x (in_order order xs) (all-in_order order (λ y. is_eq (order x y) ≡ false) xs a.0) (apart-in_order xs a.1)
+  apart-in_order (x ∷ xs) a = apart-inserted x (sorted_by order xs) (all-in_order order (λ y. is_eq (order x y) ≡ false) xs a.0) (apart-in_order xs a.1)
 
 -- a test of equality
 pub record Tells {X : Type 0} (same : X → X → Bool) : Type 0 where
@@ -197,7 +197,7 @@ module _ {X : Type 0} {order : X → X → Ordering} (o : IsTotalOrder order) (t
       ap (λ (z : X). z ∷ xs) first ∙ ap (λ (zs : List X). y ∷ zs) (one-ascending xs ys a.1 b.1 (bag-rests x y xs ys first h))
 
   -- put in order, two lists that have the same things each as often are one
-  pub in_order-same : (xs ys : List X) → SameBag xs ys → in_order order xs ≡ in_order order ys
+  pub in_order-same : (xs ys : List X) → SameBag xs ys → sorted_by order xs ≡ sorted_by order ys
   in_order-same xs ys h =
-      one-ascending (in_order order xs) (in_order order ys) (ascends-in_order o xs) (ascends-in_order o ys)
+      one-ascending (sorted_by order xs) (sorted_by order ys) (ascends-in_order o xs) (ascends-in_order o ys)
       (λ f. sum_by-in_order order f xs ∙ h f ∙ sym (sum_by-in_order order f ys))

@@ -11,8 +11,8 @@ use Rattle.semantics.specs.Columns.{Field}
 use Rattle.semantics.specs.Names.{kind_at}
 use Rattle.semantics.specs.Records.{Fits}
 use Rattle.semantics.specs.Values.{Datum, null, value_order}
-use Rattle.semantics.specs.Aggregates.{column_values, is_present}
-use Rattle.semantics.specs.Groups.{Row, Key, key_order, members, project, same_key, value_at}
+use Rattle.semantics.specs.Aggregates.{column_values, is_non_null}
+use Rattle.semantics.specs.Groups.{Record, Key, key_order, members, project, same_key, value_at}
 use Rattle.semantics.specs.declared.kind.Kind.{Kind}
 use Rattle.semantics.specs.declared.function.ColumnFunction.{ColumnFunction}
 use Rattle.semantics.specs.declared.function.ColumnFunction.TheVariants as function
@@ -127,7 +127,7 @@ null-held (f ∷ fields) zero l = tt
 null-held (f ∷ fields) (suc place) l = null-held fields place (omega (arith, l))
 
 -- and the value of a record that fits
-value-held : (fields : List Field) (row : Row) (place : ℕ) → Fits fields row → place < length fields
+value-held : (fields : List Field) (row : Record) (place : ℕ) → Fits fields row → place < length fields
     → IsHeld (kind_at fields place) (value_at place row)
 value-held [] row place h l = absurd (omega (arith, l))
 value-held (f ∷ fields) [] place h l = absurd h
@@ -151,18 +151,18 @@ find-such P test (x ∷ xs) d other h = elim (test x) as (λ b. P (unwrap_or (co
   | false ↦ find-such P test xs d other h.1
 ]
 
-values-held : (fields : List Field) (place : ℕ) (rows : List Row) → AllFit fields rows → place < length fields
+values-held : (fields : List Field) (place : ℕ) (rows : List Record) → AllFit fields rows → place < length fields
     → AllByRecursion (IsHeld (kind_at fields place)) (map (value_at place) rows)
 values-held fields place [] h l = tt
 values-held fields place (row ∷ rows) h l = (value-held fields row place h.0 l, values-held fields place rows h.1 l)
 
-column-held : (fields : List Field) (place : ℕ) (rows : List Row) → AllFit fields rows → place < length fields
+column-held : (fields : List Field) (place : ℕ) (rows : List Record) → AllFit fields rows → place < length fields
     → AllByRecursion (IsHeld (kind_at fields place)) (column_values place rows)
 column-held fields place rows h l =
-    all-filter (IsHeld (kind_at fields place)) is_present (map (value_at place) rows) (values-held fields place rows h l)
+    all-filter (IsHeld (kind_at fields place)) is_non_null (map (value_at place) rows) (values-held fields place rows h l)
 
 -- so it holds what is found among the values of records that fit, or else NULL
-found-held : (fields : List Field) (place : ℕ) (test : Datum → Bool) (rows : List Row) → AllFit fields rows
+found-held : (fields : List Field) (place : ℕ) (test : Datum → Bool) (rows : List Record) → AllFit fields rows
     → place < length fields
     → IsHeld (kind_at fields place) (unwrap_or (find test (column_values place rows)) null)
 found-held fields place test rows h l =
@@ -171,7 +171,7 @@ found-held fields place test rows h l =
 
 -- ---- what is kept of records that fit
 
-kept-over : (fields : List Field) (f : ColumnFunction) (rows : List Row) → AllFit fields rows → HasColumn fields f
+kept-over : (fields : List Field) (f : ColumnFunction) (rows : List Record) → AllFit fields rows → HasColumn fields f
     → IsStateOver fields f (state_over f rows)
 kept-over fields function.CountRows rows h l = tt
 kept-over fields (function.Count place) rows h l = tt
@@ -181,19 +181,19 @@ kept-over fields (function.Min place) rows h l = found-held fields place _ rows 
 kept-over fields (function.Max place) rows h l = found-held fields place _ rows h l
 kept-over fields (function.Avg place) rows h l = tt
 
-kept-counted : (fields : List Field) (f : ColumnFunction) (rows : List Row) → AllFit fields rows → HasColumn fields f
+kept-counted : (fields : List Field) (f : ColumnFunction) (rows : List Record) → AllFit fields rows → HasColumn fields f
     → IsStateCounted fields f (state_counted f rows)
 kept-counted fields function.CountRows rows h l = tt
 kept-counted fields f rows h l = kept-over fields f rows h l
 
-state-of : (fields : List Field) (filters : List (Row → Bool)) (t : Option ℕ) (f : ColumnFunction) (rows : List Row)
+state-of : (fields : List Field) (filters : List (Record → Bool)) (t : Option ℕ) (f : ColumnFunction) (rows : List Record)
     → AllFit fields rows
     → HasColumn fields f → IsStateBy fields t f (accumulator_state (aggregate_of filters (record { function = f; filter = t })) rows)
 state-of fields filters None f rows h l = kept-over fields f rows h l
 state-of fields filters (Some index) f rows h l =
     kept-counted fields f (filter (filter_at filters index) rows) (all-filter (Fits fields) (filter_at filters index) rows h) l
 
-states-of : (fields : List Field) (filters : List (Row → Bool)) (fs : List FilteredFunction) (rows : List Row)
+states-of : (fields : List Field) (filters : List (Record → Bool)) (fs : List FilteredFunction) (rows : List Record)
     → AllFit fields rows
     → HaveColumns fields fs → AreStatesOf fields fs (group_state (map (aggregate_of filters) fs) rows).parts
 states-of fields filters [] rows h l = tt
@@ -213,12 +213,12 @@ no_states-of fields (f ∷ fs) l = (no_state-of fields f.filter f.function l.0, 
 
 -- ---- keys
 
-projected-held : (fields : List Field) (set : List ℕ) (row : Row) → Fits fields row → AreColumns fields set
+projected-held : (fields : List Field) (set : List ℕ) (row : Record) → Fits fields row → AreColumns fields set
     → IsKeyOf fields set (project set row)
 projected-held fields [] row h l = tt
 projected-held fields (p ∷ ps) row h l = (value-held fields row p h l.0, projected-held fields ps row h l.1)
 
-any-held : (fields : List Field) (set : List ℕ) (k : Key) (rows : List Row) → AllFit fields rows → AreColumns fields set
+any-held : (fields : List Field) (set : List ℕ) (k : Key) (rows : List Record) → AllFit fields rows → AreColumns fields set
     → list_any (same_key k) (map (project set) rows) ≡ true → IsKeyOf fields set k
 any-held fields set k [] h l is = cc
 any-held fields set k (row ∷ rows) h l is =
@@ -234,7 +234,7 @@ none-held fields k true e h = subst (IsKeyOf fields []) (sym ((same_key-Decides 
 none-held fields k false e h = cc
 
 -- a key of records that fit has values of the columns
-key-held : (fields : List Field) (set : List ℕ) (k : Key) (rows : List Row) → AllFit fields rows → AreColumns fields set
+key-held : (fields : List Field) (set : List ℕ) (k : Key) (rows : List Record) → AllFit fields rows → AreColumns fields set
     → has_key set k rows ≡ true → IsKeyOf fields set k
 key-held fields [] k rows h l is = none-held fields k (same_key k []) refl is
 key-held fields (p ∷ ps) k rows h l is =
@@ -298,9 +298,9 @@ states-there fields fs true group h = h
 states-there fields fs false group h = tt
 
 -- the table of records that fit
-pub records-typed : (fields : List Field) (set : List ℕ) (fs : List FilteredFunction) (filters : List (Row → Bool))
+pub records-typed : (fields : List Field) (set : List ℕ) (fs : List FilteredFunction) (filters : List (Record → Bool))
     (t : Contents)
-    (rows : List Row) → IsTableUnder set fs filters t rows → AllFit fields rows → AreColumns fields set
+    (rows : List Record) → IsTableUnder set fs filters t rows → AllFit fields rows → AreColumns fields set
     → HaveColumns fields fs
     → IsTypedTable fields set fs t
 records-typed fields set fs filters t rows is fit columns have =

@@ -12,7 +12,7 @@ use Rattle.std.specs.Map.{keys_of}
 use Rattle.std.specs.FinMap as fin
 use Rattle.query_resolve.specs.declared.function.FilteredFunction.{FilteredFunction}
 use Rattle.semantics.specs.Columns.{Field}
-use Rattle.semantics.specs.Found.{GroupSummary}
+use Rattle.semantics.specs.ResultRows.{GroupSummary}
 use Rattle.semantics.specs.Groups.{Key, same_key}
 use Rattle.group_tables.specs.Fitting.{HasType}
 use Rattle.group_tables.specs.Keys.{key_in}

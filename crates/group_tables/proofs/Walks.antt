@@ -3,7 +3,7 @@ use Rattle.group_tables.specs.Keys.{key_in}
 use Rattle.std.proofs.Common.{◌≡◌, ◌<◌, ℕ, zero, suc, List, [], ◌∷◌, ◌++◌, set, length, get_or, refl, sym, ap, subst, ◌∙◌, append-nil, append_assoc, arith}
 use Rattle.std.proofs.lemmas.List.Sorted.{IsPermutation-append_comm, IsPermutation-append_left, IsPermutation-append_right, IsPermutation-refl, IsPermutation-trans}
 use Rattle.std.specs.List.Sorted.{IsPermutation}
-use Rattle.semantics.specs.Found.{GroupSummary}
+use Rattle.semantics.specs.ResultRows.{GroupSummary}
 use Rattle.group_tables.specs.declared.walk.Walk.{Walk}
 use Rattle.group_tables.specs.Inside.Group.{state_summary}
 use Rattle.group_tables.specs.Inside.Summaries.{entry_summaries}

@@ -5,8 +5,8 @@ use Rattle.std.specs.Coded.{Coded, code_by, coded×, coded_ℕ, coded_ℤ}
 use Rattle.semantics.specs.Values.{Datum, null, value_order}
 use Rattle.semantics.specs.declared.function.ColumnFunction.{ColumnFunction}
 use Rattle.semantics.specs.declared.function.ColumnFunction.TheVariants as function
-use Rattle.semantics.specs.Groups.{Row}
-use Rattle.semantics.specs.Aggregates.{column_values, column_numbers, AggregateFunction, total, least, greatest}
+use Rattle.semantics.specs.Groups.{Record}
+use Rattle.semantics.specs.Aggregates.{column_values, column_numbers, AggregateFunction, total, minimum, maximum}
 use Rattle.group_tables.specs.Coding.{coded_datum}
 use Rattle.group_tables.specs.Values.{Values, set_of, falling_order, first_by}
 
@@ -21,27 +21,27 @@ pub data AccumulatorState : Type 0 where
   highest : Datum → AccumulatorState
 
 -- what is kept for a set function without FILTER of a list of records
-abbrev pub state_over : ColumnFunction → List Row → AccumulatorState
+abbrev pub state_over : ColumnFunction → List Record → AccumulatorState
 state_over function.CountRows rows = nothing
 state_over (function.Count place) rows = counted (length (column_values place rows))
 state_over (function.CountDistinct place) rows = collected (set_of (column_values place rows))
 state_over (function.Sum place) rows = summed (total (column_numbers place rows)) (length (column_numbers place rows))
-state_over (function.Min place) rows = lowest (least (column_values place rows))
-state_over (function.Max place) rows = highest (greatest (column_values place rows))
+state_over (function.Min place) rows = lowest (minimum (column_values place rows))
+state_over (function.Max place) rows = highest (maximum (column_values place rows))
 state_over (function.Avg place) rows = averaged (total (column_numbers place rows)) (length (column_numbers place rows))
 
 -- what is kept for a set function with FILTER of the records that it keeps: the same, but their number for COUNT(*), as it is not that of all records
-abbrev pub state_counted : ColumnFunction → List Row → AccumulatorState
+abbrev pub state_counted : ColumnFunction → List Record → AccumulatorState
 state_counted function.CountRows rows = counted (length rows)
 state_counted f rows = state_over f rows
 
 -- what is kept of a list of records for a set function with this FILTER, or with none
-abbrev pub state_by : Option (Row → Bool) → ColumnFunction → List Row → AccumulatorState
+abbrev pub state_by : Option (Record → Bool) → ColumnFunction → List Record → AccumulatorState
 state_by None f rows = state_over f rows
 state_by (Some keeps) f rows = state_counted f (filter keeps rows)
 
 -- what is kept for a set function of a list of records
-abbrev pub accumulator_state : AggregateFunction → List Row → AccumulatorState
+abbrev pub accumulator_state : AggregateFunction → List Record → AccumulatorState
 accumulator_state f rows = state_by f.filter f.function rows
 
 -- what is kept of two parts of a group for one function; of different functions nothing

@@ -2,9 +2,9 @@
 use Rattle.values.specs.Datum.{datum_of}
 use Rattle.group_tables.specs.declared.cell.Cell.{Cell}
 use Rattle.group_tables.specs.declared.cell.Cell.TheVariants as cell
-use Rattle.semantics.specs.Aggregates.{Summary, plain, ratio}
+use Rattle.semantics.specs.Aggregates.{CellValue, plain, ratio}
 
 -- a cell: a value, or a sum and how many numbers were added
-abbrev pub summary_of : Cell → Summary
+abbrev pub summary_of : Cell → CellValue
 summary_of (cell.Plain value) = plain (datum_of value)
 summary_of (cell.Ratio sum count) = ratio sum count

@@ -5,14 +5,14 @@ use Rattle.semantics.specs.declared.kind.Kind.{Kind}
 use Rattle.semantics.specs.Values.{Datum, whole, null}
 use Rattle.semantics.specs.Records.{Holds}
 use Rattle.semantics.specs.Columns.{Field}
-use Rattle.semantics.specs.Syntax.{TreeForm}
+use Rattle.semantics.specs.Syntax.{Query}
 use Rattle.semantics.specs.declared.function.ColumnFunction.{ColumnFunction}
 use Rattle.semantics.specs.declared.function.ColumnFunction.TheVariants as function
 use Rattle.semantics.specs.Names.{kind_at}
 use Rattle.semantics.specs.SetFunctions.{functions_of}
 use Rattle.semantics.specs.Sets.{sets_of}
-use Rattle.semantics.specs.Aggregates.{Summary, plain, ratio}
-use Rattle.semantics.specs.Found.{Found, set_of}
+use Rattle.semantics.specs.Aggregates.{CellValue, plain, ratio}
+use Rattle.semantics.specs.ResultRows.{ResultRow, set_of}
 
 -- ---- types
 
@@ -22,29 +22,29 @@ IsHeld None d = ⊥
 IsHeld (Some k) d = Holds k d
 
 -- a whole number from 0 on
-abbrev pub IsCount : Summary → Type 0
+abbrev pub IsCount : CellValue → Type 0
 IsCount (plain (whole (pos n))) = ⊤
 IsCount cell = ⊥
 
 -- a whole number, or NULL
-abbrev pub IsSum : Summary → Type 0
+abbrev pub IsSum : CellValue → Type 0
 IsSum (plain (whole n)) = ⊤
 IsSum (plain null) = ⊤
 IsSum cell = ⊥
 
 -- a value that the column at a place holds
-abbrev pub IsOfColumn : List Field → ℕ → Summary → Type 0
+abbrev pub IsOfColumn : List Field → ℕ → CellValue → Type 0
 IsOfColumn fields place (plain d) = IsHeld (kind_at fields place) d
 IsOfColumn fields place (ratio sum count) = ⊥
 
 -- a sum and how many numbers were added, which are some, or NULL
-abbrev pub IsAverage : Summary → Type 0
+abbrev pub IsAverage : CellValue → Type 0
 IsAverage (plain null) = ⊤
 IsAverage (ratio sum count) = 0 < count
 IsAverage cell = ⊥
 
 -- a cell has the type of its set function
-abbrev pub HasType : List Field → ColumnFunction → Summary → Type 0
+abbrev pub HasType : List Field → ColumnFunction → CellValue → Type 0
 HasType fields function.CountRows cell = IsCount cell
 HasType fields (function.Count place) cell = IsCount cell
 HasType fields (function.CountDistinct place) cell = IsCount cell
@@ -57,7 +57,7 @@ HasType fields (function.Avg place) cell = IsAverage cell
 
 -- Groups fit a query where the index of each is that of a grouping set, its key has a value for each column of the set, and the column holds it,
 -- it has a cell for each set function, of the function's type, and no index and key stand twice together.
-pub record AreFitting (fields : List Field) (t : TreeForm) (found : List Found) : Type 0 where
+pub record AreFitting (fields : List Field) (t : Query) (found : List ResultRow) : Type 0 where
   pub indexes : All (λ row. row.0 < length (sets_of fields t)) found
   pub keys : All (λ row. length row.1.key ≡ length (set_of fields t row)) found
   pub key_types : All (λ row. AllZip (λ place d. IsHeld (kind_at fields place) d) (set_of fields t row) row.1.key) found

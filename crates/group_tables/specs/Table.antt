@@ -8,7 +8,7 @@ use Rattle.std.specs.List.{IsDistinct, list_any, sum_by}
 use Rattle.std.specs.Option.{option_map_or}
 use Rattle.query_resolve.specs.declared.function.FilteredFunction.{FilteredFunction}
 use Rattle.group_tables.specs.Coding.{coded_key}
-use Rattle.semantics.specs.Groups.{Row, Key, key_order, same_key, keys, members}
+use Rattle.semantics.specs.Groups.{Record, Key, key_order, same_key, keys, members}
 use Rattle.group_tables.specs.Rolled.{finer_keys}
 use Rattle.semantics.specs.Aggregates.{AggregateFunction}
 use Rattle.group_tables.specs.Functions.{aggregates_of}
@@ -32,53 +32,53 @@ abbrev pub contents_of : List (PackedKey × GroupState) → Contents
 contents_of entries = fin.from_entries (entries_by_key entries)
 
 -- a table is that of a list of records under a grouping set: at each of their keys it has what is kept of the members, and at no other key anything
-abbrev pub IsTableOf : List ℕ → List AggregateFunction → Contents → List Row → Type 0
+abbrev pub IsTableOf : List ℕ → List AggregateFunction → Contents → List Record → Type 0
 IsTableOf set functions table rows = (key : Key) → fin.get table key ≡ (if list_any (same_key key) (keys set rows) then Some (group_state functions (members set key rows)) else None)
 
 -- what a table has of a key: what is kept of the members of its group
-abbrev pub group_over : List ℕ → List AggregateFunction → List Row → Key → Key × GroupState
+abbrev pub group_over : List ℕ → List AggregateFunction → List Record → Key → Key × GroupState
 group_over set functions rows key = (key, group_state functions (members set key rows))
 
 -- the table of a list of records under a grouping set
-abbrev pub table_of : List ℕ → List AggregateFunction → List Row → Contents
+abbrev pub table_of : List ℕ → List AggregateFunction → List Record → Contents
 table_of set functions rows = fin.from_entries (map (group_over set functions rows) (keys set rows))
 
 -- a table is that of a list of records under a grouping set, for set functions whose FILTERs are given by their indexes, where the filters keep this
-abbrev pub IsTableUnder : List ℕ → List FilteredFunction → List (Row → Bool) → Contents → List Row → Type 0
+abbrev pub IsTableUnder : List ℕ → List FilteredFunction → List (Record → Bool) → Contents → List Record → Type 0
 IsTableUnder set functions filters table rows = IsTableOf set (aggregates_of filters functions) table rows
 
 -- a table is that of no records under a grouping set, whatever the filters keep
 abbrev pub IsOfNone : List ℕ → List FilteredFunction → Contents → Type 0
-IsOfNone set functions table = (filters : List (Row → Bool)) → IsTableUnder set functions filters table []
+IsOfNone set functions table = (filters : List (Record → Bool)) → IsTableUnder set functions filters table []
 
 -- a table is another one with one more record, of which the marks say which filters keep it: whatever records that is of, and whatever the filters keep of them
-abbrev pub HasOneMore : List ℕ → List FilteredFunction → Contents → Row → List Bool → Contents → Type 0
+abbrev pub HasOneMore : List ℕ → List FilteredFunction → Contents → Record → List Bool → Contents → Type 0
 HasOneMore set functions table row marks new =
-    (filters : List (Row → Bool)) (rows : List Row)
+    (filters : List (Record → Bool)) (rows : List Record)
     → marks ≡ map (λ keeps. keeps row) filters
     → IsTableUnder set functions filters table rows → IsTableUnder set functions filters new (rows ++ row ∷ [])
 
 -- a table is that of the records of two others: whatever records they are of, under one set and for the same functions
 abbrev pub IsUnionOf : Contents → Contents → Contents → Type 0
 IsUnionOf first second table =
-    (set : List ℕ) (functions : List AggregateFunction) (rows more : List Row)
+    (set : List ℕ) (functions : List AggregateFunction) (rows more : List Record)
     → IsTableOf set functions first rows → IsTableOf set functions second more → IsTableOf set functions table (rows ++ more)
 
 -- a table under a set is that of the records of another table, under a finer set: whatever records that is of, and whatever the filters keep
 abbrev pub IsRollOf : List ℕ → List FilteredFunction → Contents → List ℕ → Contents → Type 0
 IsRollOf finer functions table set rolled =
-    (filters : List (Row → Bool)) (rows : List Row) → IsTableUnder finer functions filters table rows → IsTableUnder set functions filters rolled rows
+    (filters : List (Record → Bool)) (rows : List Record) → IsTableUnder finer functions filters table rows → IsTableUnder set functions filters rolled rows
 
 -- groups are all those of a table, in some order: of whatever records it is, their summaries are those of the groups of these
 abbrev pub AreGroupsOfTable : Contents → List Group → Type 0
 AreGroupsOfTable table groups =
-    (set : List ℕ) (functions : List AggregateFunction) (rows : List Row)
+    (set : List ℕ) (functions : List AggregateFunction) (rows : List Record)
     → IsTableOf set functions table rows → SameBag (map group_summary_in groups) (group_summaries set functions rows)
 
 -- the table of some list of records, fewer than 2^63 with one more, whatever the filters keep
 pub record TakesOne (set : List ℕ) (functions : List FilteredFunction) (table : Contents) : Type 0 where
-  pub filters : List (Row → Bool)
-  pub rows : List Row
+  pub filters : List (Record → Bool)
+  pub rows : List Record
   pub is_table : IsTableUnder set functions filters table rows
   pub few : length rows + 1 < 2 ^ 63
 
@@ -90,7 +90,7 @@ group_of_keys functions table (key ∷ keys) = joint_group (unwrap_or (fin.get t
 -- a table under a set keeps of each group what another one, under a finer set, keeps of the keys that have its values, put together: whatever records both are of
 abbrev pub HasGroupsOfFiner : List ℕ → List AggregateFunction → Contents → List ℕ → Contents → Type 0
 HasGroupsOfFiner finer functions table set rolled =
-    (key : Key) (group : GroupState) (rows : List Row)
+    (key : Key) (group : GroupState) (rows : List Record)
     → IsTableOf finer functions table rows → IsTableOf set functions rolled rows
     → fin.get rolled key ≡ Some group → group ≡ group_of_keys functions table (finer_keys finer set key rows)
 

@@ -5,8 +5,8 @@ use Rattle.std.specs.FinMap as fin
 use Rattle.semantics.specs.Columns.{Field}
 use Rattle.semantics.specs.Records.{Fits}
 use Rattle.semantics.specs.Names.{kind_at}
-use Rattle.semantics.specs.Groups.{Row, Key}
-use Rattle.semantics.specs.Found.{GroupSummary}
+use Rattle.semantics.specs.Groups.{Record, Key}
+use Rattle.semantics.specs.ResultRows.{GroupSummary}
 use Rattle.semantics.specs.declared.function.ColumnFunction.{ColumnFunction}
 use Rattle.semantics.specs.declared.function.ColumnFunction.TheVariants as function
 use Rattle.query_resolve.specs.declared.function.FilteredFunction.{FilteredFunction}
@@ -37,7 +37,7 @@ abbrev pub HaveColumns : List Field → List FilteredFunction → Type 0
 HaveColumns fields functions = AllByRecursion (λ f. HasColumn fields f.function) functions
 
 -- each record fits the columns
-abbrev pub AllFit : List Field → List Row → Type 0
+abbrev pub AllFit : List Field → List Record → Type 0
 AllFit fields rows = AllByRecursion (Fits fields) rows
 
 -- ---- what is kept

@@ -3,7 +3,7 @@ ghost use Rattle.std.specs.Prelude.{◌≡◌, MatchOption, false, slice_index_o
 ghost use Rattle.values.specs.Datum.{datum_of, data_of};
 ghost use Rattle.semantics.specs.Values.{null};
 ghost use Rattle.group_tables.specs.Inside.Accumulator.{argument_place, is_marked};
-ghost use Rattle.semantics.specs.Aggregates.{is_present};
+ghost use Rattle.semantics.specs.Aggregates.{is_non_null};
 ghost use Rattle.semantics.specs.Groups.{value_at};
 
 use crate::cell::Cell;
@@ -224,7 +224,7 @@ impl Accumulator {
         match self {
             Accumulator::Rows => {}
             Accumulator::Count(count) => {
-                if is_present(value) {
+                if is_non_null(value) {
                     *count += 1;
                 }
             }
@@ -359,8 +359,8 @@ impl Accumulator {
 }
 
 /// Whether a value is not NULL.
-pub(crate) fn is_present(value: &Value) -> bool
-    ensures { result ≡ is_present (datum_of value.now) }
+pub(crate) fn is_non_null(value: &Value) -> bool
+    ensures { result ≡ is_non_null (datum_of value.now) }
 {
     match value {
         Value::Null => false,

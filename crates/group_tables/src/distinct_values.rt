@@ -30,7 +30,7 @@ impl DistinctValues {
     ghost use Rattle.std.specs.Prelude.{◌≡◌, [], ◌∷◌, IfOk, OnOk};
     ghost use Rattle.std.specs.FinSet as set;
     ghost use Rattle.values.specs.Datum.{data_of, datum_of};
-    ghost use Rattle.semantics.specs.Aggregates.{present};
+    ghost use Rattle.semantics.specs.Aggregates.{non_null};
     ghost use Rattle.group_tables.specs.Entries.{ascending_values};
     ghost use Rattle.group_tables.specs.Values.{set_of};
 
@@ -60,7 +60,7 @@ impl DistinctValues {
     /// Takes one more value, of which a copy is kept where it is a new one.
     pub(crate) fn add(&mut self, memory: Memory, value: &Value) -> Result<(), AllocError>
         ensures { OnOk result (self.new
-            ≡ set.union self.old (set_of (present (datum_of value.now ∷ [])))) }
+            ≡ set.union self.old (set_of (non_null (datum_of value.now ∷ [])))) }
     {
         if !is_present(value) {
             return Ok(());

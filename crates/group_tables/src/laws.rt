@@ -1,7 +1,7 @@
 //! Laws of tables and of their groups, which have no work to do.
 ghost use Rattle.std.specs.Prelude.{◌≡◌, ◌≤◌, ◌+◌, ◌↔◌, ℕ, Bool, List, length};
 ghost use Rattle.std.specs.List.{flat_map, sum_by};
-ghost use Rattle.semantics.specs.Groups.{Key, keys, members, Row};
+ghost use Rattle.semantics.specs.Groups.{Key, keys, members, Record};
 ghost use Rattle.group_tables.specs.Rolled.{AreAmong, finer_members};
 ghost use Rattle.group_tables.specs.GroupSummaries.{group_summaries};
 ghost use Rattle.group_tables.specs.Bags.{SameBag};
@@ -17,7 +17,7 @@ ghost use Rattle.group_tables.specs.Typed.{AllFit, AreColumns, HaveColumns, IsTy
 /// A table of records is that of the same records in any other order.
 pub fn order_law()
     ensures { (set : List ℕ) (functions : List AggregateFunction)
-        (table : Contents) (rows others : List Row)
+        (table : Contents) (rows others : List Record)
         → SameBag rows others → IsTableOf set functions table rows
         → IsTableOf set functions table others }
 {}
@@ -25,11 +25,11 @@ pub fn order_law()
 /// The same records in any other order have the same keys under each grouping set, each key has the same members, and of
 /// each group the same is shown.
 pub fn records_law()
-    ensures keys { (set : List ℕ) (rows others : List Row)
+    ensures keys { (set : List ℕ) (rows others : List Record)
         → SameBag rows others → SameBag (keys set rows) (keys set others) }
-    ensures members { (set : List ℕ) (key : Key) (rows others : List Row)
+    ensures members { (set : List ℕ) (key : Key) (rows others : List Record)
         → SameBag rows others → SameBag (members set key rows) (members set key others) }
-    ensures groups { (set : List ℕ) (functions : List AggregateFunction) (rows others : List Row)
+    ensures groups { (set : List ℕ) (functions : List AggregateFunction) (rows others : List Record)
         → SameBag rows others
         → SameBag (group_summaries set functions rows) (group_summaries set functions others) }
 {}
@@ -37,16 +37,16 @@ pub fn records_law()
 /// Under each grouping set a record is a member of exactly one group, and the numbers of members add up to that of the
 /// records.
 pub fn members_law()
-    ensures members { (set : List ℕ) (rows : List Row)
+    ensures members { (set : List ℕ) (rows : List Record)
         → SameBag (flat_map (λ key. members set key rows) (keys set rows)) rows }
-    ensures lines { (set : List ℕ) (functions : List AggregateFunction) (rows : List Row)
+    ensures lines { (set : List ℕ) (functions : List AggregateFunction) (rows : List Record)
         → sum_by (λ group. group.lines) (group_summaries set functions rows) ≡ length rows }
 {}
 
 /// The members of a key are those of the keys of a finer set that have its values in the columns of the set, joined,
 /// each as often. So what a table keeps of a group is what a table of the finer set keeps of those keys, put together.
 pub fn roll_law()
-    ensures members { (finer set : List ℕ) (key : Key) (rows : List Row)
+    ensures members { (finer set : List ℕ) (key : Key) (rows : List Record)
         → AreAmong set finer → SameBag (finer_members finer set key rows) (members set key rows) }
     ensures groups { (finer set : List ℕ) (functions : List AggregateFunction)
         (table rolled : Contents)
@@ -68,7 +68,7 @@ pub fn both_law()
 /// together, have no more than those of both.
 pub fn counted_law()
     ensures records { (most : ℕ) (set : List ℕ) (functions : List FilteredFunction)
-        (filters : List (Row → Bool)) (table : Contents) (rows : List Row)
+        (filters : List (Record → Bool)) (table : Contents) (rows : List Record)
         → IsTableUnder set functions filters table rows → length rows ≤ most
         → IsCounted most functions table }
     ensures joined { (m n : ℕ) (functions : List FilteredFunction) (a b : Contents)
@@ -80,7 +80,7 @@ pub fn counted_law()
 /// those of two tables that are, put together.
 pub fn typed_law()
     ensures records { (fields : List Field) (set : List ℕ) (functions : List FilteredFunction)
-        (filters : List (Row → Bool)) (table : Contents) (rows : List Row)
+        (filters : List (Record → Bool)) (table : Contents) (rows : List Record)
         → IsTableUnder set functions filters table rows → AllFit fields rows
         → AreColumns fields set → HaveColumns fields functions
         → IsTypedTable fields set functions table }
@@ -94,11 +94,11 @@ pub fn typed_law()
 /// the types of columns and set functions whose list this is, is that of these records.
 pub fn entries_law()
     ensures of_records { (set : List ℕ) (functions : List AggregateFunction)
-        (table : Contents) (rows : List Row)
+        (table : Contents) (rows : List Record)
         → IsTableOf set functions table rows
         → table_entries table ≡ entries_over set functions rows }
     ensures is_table { (fields : List Field) (set : List ℕ) (functions : List FilteredFunction)
-        (filters : List (Row → Bool)) (table : Contents) (rows : List Row)
+        (filters : List (Record → Bool)) (table : Contents) (rows : List Record)
         → IsTypedTable fields set functions table
         → table_entries table ≡ entries_over set (aggregates_of filters functions) rows
         → IsTableUnder set functions filters table rows }

@@ -1,8 +1,8 @@
 -- What holds of an input that a result is known to stand for.
 use Rattle.std.proofs.Common.{◌≡◌, ◌∙◌, ◌≤◌, ℕ, List, length, Option, Some, None, refl, subst, sym, ap, arith}
 use Rattle.semantics.specs.Columns.{Field}
-use Rattle.semantics.specs.Found.{query_found}
-use Rattle.semantics.specs.Groups.{Row}
+use Rattle.semantics.specs.ResultRows.{rows_before_having}
+use Rattle.semantics.specs.Groups.{Record}
 use Rattle.semantics.specs.Lines.{lines}
 use Rattle.semantics.specs.Parts.{ContentsForm, contents_over, part_text, text_of, values_with, with_checksum}
 use Rattle.semantics.specs.Records.{refused_lines}
@@ -54,7 +54,7 @@ IsTextOf text_over plan partial text = (input : List ℕ) → StandsForInput pla
 
 pub report-read : (plan : PlannedQuery) (partial : PartialState) (text input : List ℕ) → IsTextOf (report plan.fields plan.query) plan partial text
     → StandsForReading plan partial input → text ≡ report plan.fields plan.query input
-report-read plan partial text input is s = is s.bytes s.stands ∙ ap (λ (rows : List Row). report_of plan.fields plan.query (query_found plan.fields plan.query rows)) s.same.valid
+report-read plan partial text input is s = is s.bytes s.stands ∙ ap (λ (rows : List Record). report_of plan.fields plan.query (rows_before_having plan.fields plan.query rows)) s.same.valid
 
 pub refusals-read : (plan : PlannedQuery) (partial : PartialState) (text input : List ℕ) → IsTextOf (refusals plan.fields) plan partial text
     → StandsForReading plan partial input → text ≡ refusals plan.fields input

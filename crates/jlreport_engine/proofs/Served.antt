@@ -9,7 +9,7 @@ use Rattle.semantics.specs.Explanation.{IsAnswerable, explanation}
 use Rattle.semantics.specs.Faults.{query_faults}
 use Rattle.semantics.specs.Reading.{Derives}
 use Rattle.semantics.specs.Serving.{EndsByRun, EndsBySettings, EndsByText, IsRefused}
-use Rattle.semantics.specs.Syntax.{TreeForm}
+use Rattle.semantics.specs.Syntax.{Query}
 use Rattle.semantics.specs.declared.ending.Ending.{Ending}
 use Rattle.semantics.specs.declared.ending.Ending.TheVariants as ending
 use Rattle.semantics.specs.declared.query_fault.QueryFault.{QueryFault}
@@ -28,7 +28,7 @@ memory-or-other (faults.RepeatedHeader n) = inr (λ e. let wrong = e in absurd c
 memory-or-other faults.OutOfMemory = inl refl
 
 -- A query that its text derives is refused under good columns by the first of its faults, unless memory ran out.
-pub refused-under : (columns query : List ℕ) (fields : List Field) (form : TreeForm) (fault : QueryFault)
+pub refused-under : (columns query : List ℕ) (fields : List Field) (form : Query) (fault : QueryFault)
     → schema_of columns ≡ Ok fields → Derives query form → (fault ≢ faults.OutOfMemory → slice_get (query_faults fields form) 0 ≡ Some fault)
     → IsRefused columns query (Err (ending.Query fault))
 refused-under columns query fields form fault schema derived first = by (memory-or-other fault) where

@@ -9,7 +9,7 @@ use Rattle.semantics.specs.Values.{Datum}
 use Rattle.semantics.specs.Columns.{Field}
 use Rattle.semantics.specs.declared.line_fault.LineFault.{LineFault}
 use Rattle.semantics.specs.Lines.{line_feed, lines, without_empty_last}
-use Rattle.semantics.specs.Records.{decode_line, answers, refused_lines}
+use Rattle.semantics.specs.Records.{decode_line, line_results, refused_lines}
 use Rattle.tables.specs.Partials.{StandsForInput}
 use Rattle.tables.specs.Pieces.{IndexedPiece, all_lines, refused_lines_within}
 use Rattle.tables.specs.States.{PartialState}
@@ -55,7 +55,7 @@ numbered n (Ok r ∷ rs) = numbered (n + 1) rs
 numbered n (Err fault ∷ rs) = ap suc (numbered (n + 1) rs)
 
 length-refused : (fields : List Field) (input : List ℕ) → length (refused_lines fields input) ≡ length (faults_of fields (lines input))
-length-refused fields input = numbered 1 (answers fields input)
+length-refused fields input = numbered 1 (line_results fields input)
 
 faults-append : (fields : List Field) (xs ys : List (List ℕ)) → faults_of fields (xs ++ ys) ≡ faults_of fields xs ++ faults_of fields ys
 faults-append fields xs ys = ap (filter_map result_err) (map-append (decode_line fields) xs ys) ∙ filter_map-append result_err (map (decode_line fields) xs) (map (decode_line fields) ys)

@@ -6,7 +6,7 @@ use Rattle.std.proofs.lemmas.Bool.Decides.{nat_tests}
 use Rattle.std.specs.List.{onto_first, enumerate_from}
 use Rattle.semantics.specs.Columns.{Field}
 use Rattle.semantics.specs.Lines.{line_feed, lines, without_empty_last}
-use Rattle.semantics.specs.Records.{answers, valid_records, refused_lines, max_line_len, reading, record_of, decode_line}
+use Rattle.semantics.specs.Records.{line_results, valid_records, refused_lines, max_line_len, reading, record_of, decode_line}
 use Rattle.semantics.specs.declared.line_fault.LineFault.TheVariants.{TooLong}
 use Rattle.std.specs.Result.{result_err, result_ok}
 use Rattle.lines.specs.Clip.{parts, clip_from, clipped_len, clip_lines}
@@ -118,7 +118,7 @@ all_decoded-cut : (fields : List Field) (ls : List (List ℕ)) → map (decode_l
 all_decoded-cut fields [] = refl
 all_decoded-cut fields (line ∷ ls) = cc (decoded-cut fields line, all_decoded-cut fields ls)
 
-answers-clip : (fields : List Field) (s : List ℕ) → answers fields (clip_lines s) ≡ answers fields s
+answers-clip : (fields : List Field) (s : List ℕ) → line_results fields (clip_lines s) ≡ line_results fields s
 answers-clip fields s = ap (map (decode_line fields)) (lines-clip s) ∙ all_decoded-cut fields (lines s)
 
 pub valid-clip : (fields : List Field) (s : List ℕ) → valid_records fields (clip_lines s) ≡ valid_records fields s

@@ -7,7 +7,7 @@ use Rattle.std.specs.Result.{result_err, result_ok}
 use Rattle.semantics.specs.Values.{Datum}
 use Rattle.semantics.specs.Columns.{Field}
 use Rattle.semantics.specs.declared.line_fault.LineFault.{LineFault}
-use Rattle.semantics.specs.Records.{answers, valid_records, refused_lines, decode_line}
+use Rattle.semantics.specs.Records.{line_results, valid_records, refused_lines, decode_line}
 use Rattle.semantics.specs.Lines.{line_feed, lines}
 use Rattle.lines.specs.Pieces.{AreWholeLines, EndsInFeed}
 use Rattle.lines.proofs.Splits.{lines-append}
@@ -19,11 +19,11 @@ lines-front front rest e =
     ∙ lines-append e.front rest
     ∙ ap (λ xs. lines xs ++ lines rest) (sym e.is)
 
-answers-front : (fields : List Field) (front rest : List ℕ) → EndsInFeed front → answers fields (front ++ rest) ≡ answers fields front ++ answers fields rest
+answers-front : (fields : List Field) (front rest : List ℕ) → EndsInFeed front → line_results fields (front ++ rest) ≡ line_results fields front ++ line_results fields rest
 answers-front fields front rest e = ap (map (decode_line fields)) (lines-front front rest e) ∙ map-append (decode_line fields) (lines front) (lines rest)
 
 valid-front : (fields : List Field) (front rest : List ℕ) → EndsInFeed front → valid_records fields (front ++ rest) ≡ valid_records fields front ++ valid_records fields rest
-valid-front fields front rest e = ap (filter_map result_ok) (answers-front fields front rest e) ∙ filter_map-append result_ok (answers fields front) (answers fields rest)
+valid-front fields front rest e = ap (filter_map result_ok) (answers-front fields front rest e) ∙ filter_map-append result_ok (line_results fields front) (line_results fields rest)
 
 -- ---- numbers
 
@@ -57,9 +57,9 @@ refused-front : (fields : List Field) (front rest : List ℕ) → EndsInFeed fro
     → refused_lines fields (front ++ rest) ≡ refused_lines fields front ++ map (shift (length (lines front))) (refused_lines fields rest)
 refused-front fields front rest e =
     ap (refused_from 1) (answers-front fields front rest e)
-    ∙ refused_from-append 1 (answers fields front) (answers fields rest)
-    ∙ ap (λ m. refused_lines fields front ++ refused_from m (answers fields rest)) (let n : 1 + length (answers fields front) ≡ length (lines front) + 1 = omega (arith, length-map (lines front) (decode_line fields)) in n)
-    ∙ ap (λ ls. refused_lines fields front ++ ls) (refused_from-shift (length (lines front)) 1 (answers fields rest))
+    ∙ refused_from-append 1 (line_results fields front) (line_results fields rest)
+    ∙ ap (λ m. refused_lines fields front ++ refused_from m (line_results fields rest)) (let n : 1 + length (line_results fields front) ≡ length (lines front) + 1 = omega (arith, length-map (lines front) (decode_line fields)) in n)
+    ∙ ap (λ ls. refused_lines fields front ++ ls) (refused_from-shift (length (lines front)) 1 (line_results fields rest))
 
 -- ---- a front of no bytes, or one that ends in a line feed
 

@@ -10,7 +10,7 @@ use Rattle.sha2.specs.Sha256.{sha256}
 use Rattle.semantics.specs.Canonical.{canonical_text}
 use Rattle.semantics.specs.Columns.{Field}
 use Rattle.semantics.specs.Parts.{ContentsForm, checksum, columns_text, groups_values, mark, number, refused_line_values, refused_values, text_of, values_with}
-use Rattle.semantics.specs.Syntax.{TreeForm}
+use Rattle.semantics.specs.Syntax.{Query}
 use Rattle.semantics.specs.Texts.{fault_text}
 use Rattle.semantics.specs.Values.{Datum, text}
 use Rattle.semantics.specs.declared.line_fault.LineFault.{LineFault}
@@ -36,7 +36,7 @@ AreRefusedFor fields lines last [] = ⊤
 AreRefusedFor fields lines last (x ∷ xs) = (last < x.0) × (x.0 ≤ lines) × (fault_named fields (fault_text fields x.1) ≡ Some x.1) × AreRefusedFor fields lines x.0 xs
 
 -- Contents of which a reader refuses nothing, behind parts of so many lines.
-pub record AreContentsFor (fields : List Field) (q : TreeForm) (before : ℕ) (c : ContentsForm) : Type 0 where
+pub record AreContentsFor (fields : List Field) (q : Query) (before : ℕ) (c : ContentsForm) : Type 0 where
   pub few : before + c.lines < 2 ^ 63
   pub refused_few : length c.refused ≤ c.lines
   pub refused : AreRefusedFor fields c.lines 0 c.refused
@@ -161,7 +161,7 @@ all_refused-read fields lines refused small few h =
 
 -- ---- contents, and the whole part
 
-module _ (fields : List Field) (q : TreeForm) where
+module _ (fields : List Field) (q : Query) where
   abbrev shape : ShapeForm
   shape = shape_under fields q
 

@@ -6,7 +6,7 @@ use Rattle.std.specs.Prelude.{flat_map}
 use Rattle.semantics.specs.Columns.{Field}
 use Rattle.semantics.specs.Lines.{lines}
 use Rattle.semantics.specs.Parts.{ContentsForm, checksum, contents_over, part_text, part_values, text_of, value_text}
-use Rattle.semantics.specs.Syntax.{TreeForm}
+use Rattle.semantics.specs.Syntax.{Query}
 use Rattle.semantics.specs.Values.{Datum}
 use Rattle.values.specs.Results.{◌>>=◌}
 use Rattle.lines.proofs.Clips.{lines-clip}
@@ -37,7 +37,7 @@ abbrev pub lines_together : List (List ℕ) → ℕ
 lines_together [] = 0
 lines_together (input ∷ inputs) = length (lines input) + lines_together inputs
 
-module _ (fields : List Field) (q : TreeForm) where
+module _ (fields : List Field) (q : Query) where
   -- behind the last part nothing is read
   at_end : (most part before : ℕ) (s : Stream) → s.left ≡ [] → parts_from fields q most part before s ≡ Ok []
   unfolding parts_from

@@ -19,7 +19,7 @@ use Rattle.semantics.specs.Columns.{Field}
 use Rattle.semantics.specs.Lines.{line_feed, lines}
 use Rattle.semantics.specs.Records.{max_line_len, valid_records}
 use Rattle.semantics.specs.Conditions.{kept_records}
-use Rattle.semantics.specs.Syntax.{TreeForm}
+use Rattle.semantics.specs.Syntax.{Query}
 use Rattle.semantics.specs.Values.{Datum}
 use Rattle.values.specs.Schema.{IsSchema}
 use Rattle.values.specs.Results.{◌>>=◌}
@@ -55,7 +55,7 @@ clipped-reads (d ∷ ds) =
 
 -- ---- the lines of parts
 
-module _ (fields : List Field) (q : TreeForm) where
+module _ (fields : List Field) (q : Query) where
   -- the values of the part of an input, with the last one
   abbrev all-values : List ℕ → List Datum
   all-values input = part_values fields q input ++ checksum (text_of (part_values fields q input)) ∷ []

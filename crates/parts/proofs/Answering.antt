@@ -6,7 +6,7 @@ use Rattle.part_lines.specs.Reading.{Stream}
 use Rattle.query_plan.specs.Planned.{PlannedQuery}
 use Rattle.semantics.specs.Columns.{Field}
 use Rattle.semantics.specs.Lines.{lines}
-use Rattle.semantics.specs.Syntax.{TreeForm}
+use Rattle.semantics.specs.Syntax.{Query}
 use Rattle.semantics.specs.Parts.{ContentsForm, contents_over, concatenated, part_text}
 use Rattle.tables.specs.Partials.{StandsForInput}
 use Rattle.tables.specs.Sound.{IsSoundUnder}
@@ -26,7 +26,7 @@ use Rattle.parts.proofs.Joins.{ContentsLaw, first-stands, read-Err, read-Ok}
 use Rattle.parts.proofs.Onward.{at_fault, at_part}
 
 -- the parts of lines, of which there are some
-are-parts : (fields : List Field) (q : TreeForm) (ls : List (List ℕ)) (answer : Result (List ContentsForm) PartedFault) → ls ≢ [] → ArePartsFrom fields q 1 0 (record { left = ls; place = 0 }) answer → parts_at fields q ls ≡ answer
+are-parts : (fields : List Field) (q : Query) (ls : List (List ℕ)) (answer : Result (List ContentsForm) PartedFault) → ls ≢ [] → ArePartsFrom fields q 1 0 (record { left = ls; place = 0 }) answer → parts_at fields q ls ≡ answer
 are-parts fields q [] answer some read = absurd (some refl)
 are-parts fields q (line ∷ more) answer some read = read (length (line ∷ more)) (omega arith)
 

@@ -9,7 +9,7 @@ use Rattle.part_lines.specs.Known.{AreReadAs}
 use Rattle.part_lines.specs.Reading.{Stream, count_at, count_within, groups_at, passed, value_at}
 use Rattle.semantics.specs.Canonical.{canonical_text}
 use Rattle.semantics.specs.Columns.{Field}
-use Rattle.semantics.specs.Syntax.{TreeForm}
+use Rattle.semantics.specs.Syntax.{Query}
 use Rattle.semantics.specs.Values.{Datum, text}
 use Rattle.semantics.specs.declared.line_fault.LineFault.{LineFault}
 use Rattle.semantics.specs.Texts.{fault_text}
@@ -168,7 +168,7 @@ all_refused-again fields lines refused alone =
 
 -- ---- contents
 
-module _ (fields : List Field) (q : TreeForm) where
+module _ (fields : List Field) (q : Query) where
   -- what is read behind the number of the groups, behind the refused lines, and behind the number of the lines
   abbrev behind-count : ℕ → List (ℕ × LineFault) → ℕ × Stream → Result (ContentsForm × Stream) Fault
   behind-count n refused count = groups_at (shape_under fields q) count.0 None (n - length refused) count.1 >>= λ groups. Ok (record { lines = n; refused = refused; groups = groups.0 }, groups.1)

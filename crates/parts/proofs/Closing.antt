@@ -8,12 +8,12 @@ use Rattle.std.specs.List.{onto_first, slice_split}
 use Rattle.lines.specs.Pieces.{AreWholeLines, EndsInFeed}
 use Rattle.semantics.specs.Columns.{Field}
 use Rattle.semantics.specs.Lines.{line_feed, lines, without_empty_last}
-use Rattle.semantics.specs.Syntax.{TreeForm}
+use Rattle.semantics.specs.Syntax.{Query}
 use Rattle.semantics.specs.GroupStates.{entries_over}
 use Rattle.semantics.specs.Conditions.{kept_records}
-use Rattle.semantics.specs.Found.{aggregate_functions}
+use Rattle.semantics.specs.ResultRows.{aggregate_functions}
 use Rattle.semantics.specs.Sets.{grouping_places}
-use Rattle.semantics.specs.Parts.{ContentsForm, contents_over, closed, concatenated}
+use Rattle.semantics.specs.Parts.{ContentsForm, contents_over, newline_terminated, concatenated}
 use Rattle.tables.specs.Folding.{refused_lines_of, valid_records_of}
 
 -- ---- it is whole lines
@@ -25,11 +25,11 @@ feed-one : (byte : ℕ) (is_feed : Bool) → (byte == line_feed) ≡ is_feed →
 feed-one byte true e = record { front = []; is = ap (λ b. b ∷ []) (eqb-true byte line_feed e) }
 feed-one byte false e = record { front = byte ∷ []; is = refl }
 
-closed-feed : (byte : ℕ) (bytes : List ℕ) → EndsInFeed (closed (byte ∷ bytes))
+closed-feed : (byte : ℕ) (bytes : List ℕ) → EndsInFeed (newline_terminated (byte ∷ bytes))
 closed-feed byte [] = feed-one byte (byte == line_feed) refl
-closed-feed byte (next ∷ bytes) = feed-more byte (closed (next ∷ bytes)) (closed-feed next bytes)
+closed-feed byte (next ∷ bytes) = feed-more byte (newline_terminated (next ∷ bytes)) (closed-feed next bytes)
 
-pub closed-whole : (input : List ℕ) → AreWholeLines (closed input)
+pub closed-whole : (input : List ℕ) → AreWholeLines (newline_terminated input)
 closed-whole [] = inl refl
 closed-whole (byte ∷ bytes) = inr (closed-feed byte bytes)
 
@@ -41,7 +41,7 @@ whole-more front back (inr feed) (inr more) = inr record { front = front ++ more
 
 pub concatenated-whole : (inputs : List (List ℕ)) → AreWholeLines (concatenated inputs)
 concatenated-whole [] = inl refl
-concatenated-whole (input ∷ inputs) = subst AreWholeLines (sym (flat_map-cons closed input inputs)) (whole-more (closed input) (concatenated inputs) (closed-whole input) (concatenated-whole inputs))
+concatenated-whole (input ∷ inputs) = subst AreWholeLines (sym (flat_map-cons newline_terminated input inputs)) (whole-more (newline_terminated input) (concatenated inputs) (closed-whole input) (concatenated-whole inputs))
 
 -- ---- it has the lines of the input
 
@@ -82,7 +82,7 @@ lines-one byte false e =
     ∙ ap (λ f. cond f ([] ∷ [] ∷ []) ((byte ∷ []) ∷ [])) e
     ∙ sym (ap (λ f. without_empty_last (cond f ([] ∷ [] ∷ []) ((byte ∷ []) ∷ []))) e ∙ ap (λ f. cond f [] ((byte ∷ []) ∷ [])) (not_empty byte []))
 
-closed-some : (byte : ℕ) (bytes : List ℕ) → 0 < length (closed (byte ∷ bytes))
+closed-some : (byte : ℕ) (bytes : List ℕ) → 0 < length (newline_terminated (byte ∷ bytes))
 closed-some byte [] = some (byte == line_feed)
   where
     some : (f : Bool) → 0 < length (cond f (byte ∷ []) (byte ∷ line_feed ∷ []))
@@ -90,22 +90,22 @@ closed-some byte [] = some (byte == line_feed)
     some false = omega arith
 closed-some byte (next ∷ bytes) = omega arith
 
-pub closed-lines : (input : List ℕ) → lines (closed input) ≡ lines input
+pub closed-lines : (input : List ℕ) → lines (newline_terminated input) ≡ lines input
 closed-lines [] = refl
 closed-lines (byte ∷ []) = lines-one byte (byte == line_feed) refl
 closed-lines (byte ∷ next ∷ bytes) =
-    lines-cons byte (closed (next ∷ bytes)) (closed-some next bytes)
+    lines-cons byte (newline_terminated (next ∷ bytes)) (closed-some next bytes)
     ∙ ap (λ ls. cond (byte == line_feed) ([] ∷ ls) (onto_first byte ls)) (closed-lines (next ∷ bytes))
     ∙ sym (lines-cons byte (next ∷ bytes) (omega arith))
 
 -- so it has the same contents
-contents-of : List Field → TreeForm → List (List ℕ) → ContentsForm
+contents-of : List Field → Query → List (List ℕ) → ContentsForm
 contents-of fields q ls = record {
   lines = length ls;
   refused = refused_lines_of fields ls;
   groups = entries_over (grouping_places fields q) (aggregate_functions fields q) (kept_records fields q (valid_records_of fields ls));
 }
 
-pub closed-contents : (fields : List Field) (q : TreeForm) (input : List ℕ) → contents_over fields q input ≡ contents_over fields q (closed input)
+pub closed-contents : (fields : List Field) (q : Query) (input : List ℕ) → contents_over fields q input ≡ contents_over fields q (newline_terminated input)
 unfolding contents-of
 closed-contents fields q input = ap (contents-of fields q) (sym (closed-lines input))

@@ -8,14 +8,14 @@ use Rattle.serde_json.proofs.OnLiterals.{serde_json_on_literals}
 use Rattle.semantics.specs.Canonical.{canonical_text}
 use Rattle.semantics.specs.Columns.{Field}
 use Rattle.semantics.specs.Joins.{CanBeJoined}
-use Rattle.semantics.specs.Syntax.{TreeForm, ElementForm, FunctionForm, name, function, over_all, over_filtered, rollup, expression, literal, compare}
+use Rattle.semantics.specs.Syntax.{Query, GroupingElement, SetFunction, name, function, over_all, over_filtered, rollup, expression, literal, compare}
 use Rattle.semantics.specs.Words.{reserved_word}
 use Rattle.semantics.specs.declared.aggregate.Aggregate.TheVariants as aggregate
 use Rattle.semantics.specs.declared.comparison.Op.TheVariants.{Gt}
 use Rattle.semantics.specs.declared.kind.Kind.TheVariants as kind
 use Rattle.semantics.specs.declared.literal.Literal.TheVariants as constant
 use Rattle.hex.specs.Hex.{encode_with}
-use Rattle.semantics.specs.Parts.{text_of, closed, columns_text, concatenated, part_text, part_values}
+use Rattle.semantics.specs.Parts.{text_of, newline_terminated, columns_text, concatenated, part_text, part_values}
 use Rattle.sha2.specs.Sha256.{sha256, digest_bytes, hash_after, compress, rounds, schedule, first_words}
 
 -- shop:text,cents:int
@@ -26,14 +26,14 @@ columns : columns_text fields ≡ codes "shop:text,cents:int"
 columns = refl
 
 -- SUM(cents), and SUM(cents) FILTER (WHERE cents > 2)
-abbrev sum : FunctionForm
+abbrev sum : SetFunction
 sum = over_all (aggregate.Sum (codes "cents"))
 
-abbrev sum_above_2 : FunctionForm
+abbrev sum_above_2 : SetFunction
 sum_above_2 = over_filtered (aggregate.Sum (codes "cents")) (compare (expression (name (codes "cents"))) Gt (literal (constant.Integer (pos 2))))
 
 -- SELECT shop, f AS s FROM lines, with or without GROUP BY
-abbrev query : FunctionForm → List ElementForm → TreeForm
+abbrev query : SetFunction → List GroupingElement → Query
 query f groups = record {
   items = record { expression = name (codes "shop"); alias = None } ∷ record { expression = function f; alias = Some (codes "s") } ∷ [];
   where_condition = None;
@@ -44,7 +44,7 @@ query f groups = record {
 }
 
 -- SELECT f AS s FROM lines
-abbrev query_of_one : FunctionForm → TreeForm
+abbrev query_of_one : SetFunction → Query
 query_of_one f = record {
   items = record { expression = function f; alias = Some (codes "s") } ∷ [];
   where_condition = None;
@@ -55,7 +55,7 @@ query_of_one f = record {
 }
 
 -- GROUP BY ROLLUP (shop)
-abbrev by_shop : List ElementForm
+abbrev by_shop : List GroupingElement
 by_shop = rollup ((codes "shop" ∷ []) ∷ []) ∷ []
 
 -- ---- four lines, of which the second is refused
@@ -95,13 +95,13 @@ refused = refl
 
 -- ---- inputs, one behind the other
 
-closed_none : closed [] ≡ []
+closed_none : newline_terminated [] ≡ []
 closed_none = refl
 
-closed_ended : closed (codes "ab\n") ≡ codes "ab\n"
+closed_ended : newline_terminated (codes "ab\n") ≡ codes "ab\n"
 closed_ended = refl
 
-closed_open : closed (codes "ab\n\nc") ≡ codes "ab\n\nc\n"
+closed_open : newline_terminated (codes "ab\n\nc") ≡ codes "ab\n\nc\n"
 closed_open = refl
 
 three : concatenated (codes "a" ∷ [] ∷ codes "b\nc\n" ∷ []) ≡ codes "a\nb\nc\n"

@@ -19,7 +19,7 @@ use Rattle.semantics.specs.Canonical.{canonical_text, name_at}
 use Rattle.semantics.specs.Columns.{Field}
 use Rattle.semantics.specs.Parts.{checksum, column_text, columns_text, header_of, kind_text, mark, number, refused_values}
 use Rattle.semantics.specs.Records.{max_line_len}
-use Rattle.semantics.specs.Syntax.{TreeForm}
+use Rattle.semantics.specs.Syntax.{Query}
 use Rattle.semantics.specs.Texts.{fault_text}
 use Rattle.semantics.specs.Values.{whole, text}
 use Rattle.semantics.specs.Words.{begins_word, continues_word, is_word}
@@ -147,7 +147,7 @@ name-in-columns (field ∷ fields) (suc place) = omega (arith, name-in-others fi
 -- ---- the first lines and the refused ones
 
 module _ (fields : List Field) (schema : IsSchema fields) (columns : length (quoted (columns_text fields)) ≤ 1000000) where
-  pub header-writable : (q : TreeForm) → IsTrue (is_utf8 (canonical_text q)) → length (quoted (canonical_text q)) ≤ 1000000
+  pub header-writable : (q : Query) → IsTrue (is_utf8 (canonical_text q)) → length (quoted (canonical_text q)) ≤ 1000000
       → AllByRecursion IsWritable (header_of (columns_text fields) (canonical_text q))
   header-writable q utf8 short = (
     short-writable mark (IsUtf8-are_ascii mark refl) (omega arith),

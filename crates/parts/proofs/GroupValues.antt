@@ -6,12 +6,12 @@ use Rattle.std.specs.Int.{w64}
 use Rattle.std.specs.List.{AllByRecursion, filter, flat_map, list_all, slice_index_or}
 use Rattle.std.specs.Ordering.{is_gt, is_lt}
 use Rattle.std.specs.Prelude.{FitsSigned, IsTrue}
-use Rattle.semantics.specs.Aggregates.{AggregateFunction, column_numbers, column_values, is_present, same_value, total}
+use Rattle.semantics.specs.Aggregates.{AggregateFunction, column_numbers, column_values, is_non_null, same_value, total}
 use Rattle.semantics.specs.Columns.{Field}
 use Rattle.semantics.specs.GroupStates.{EntryForm, FunctionState, entries_over, entry_over, function_state, state_by, state_over, different_values}
-use Rattle.semantics.specs.Groups.{Key, Row, key_order, keys, members, project, same_key, value_at}
+use Rattle.semantics.specs.Groups.{Key, Record, key_order, keys, members, project, same_key, value_at}
 use Rattle.semantics.specs.Names.{distinct}
-use Rattle.semantics.specs.Order.{in_order}
+use Rattle.semantics.specs.Order.{sorted_by}
 use Rattle.semantics.specs.Parts.{group_values, groups_values, state_values}
 use Rattle.semantics.specs.Records.{Fits, Holds}
 use Rattle.semantics.specs.Values.{Datum, boolean, whole, text, null, value_order}
@@ -57,10 +57,10 @@ sum-fits n (negsuc m) few sum = lt-ltb m (2 ^ 127) (omega (arith, ints, few, sum
 null-writable : IsWritable null
 null-writable = (refl, omega arith)
 
-value-at-writable : (place : ℕ) (row : Row) → AllByRecursion IsWritable row → IsWritable (value_at place row)
+value-at-writable : (place : ℕ) (row : Record) → AllByRecursion IsWritable row → IsWritable (value_at place row)
 value-at-writable place row all = at-place IsWritable row place null null-writable all
 
-projected-writable : (set : List ℕ) (row : Row) → AllByRecursion IsWritable row → AllByRecursion IsWritable (project set row)
+projected-writable : (set : List ℕ) (row : Record) → AllByRecursion IsWritable row → AllByRecursion IsWritable (project set row)
 projected-writable [] row all = tt
 projected-writable (place ∷ set) row all = (value-at-writable place row all, projected-writable set row all)
 
@@ -95,31 +95,31 @@ count-writable n few = whole-writable (pos n) (lt-ltb n (2 ^ 127) (omega (arith,
 
 module _ (fields : List Field) where
   -- fewer than 2^63 records that fit the columns, of writable values
-  record AreWritable (rows : List Row) : Type 0 where
+  record AreWritable (rows : List Record) : Type 0 where
     few : length rows < 2 ^ 63
     fit : AllByRecursion (Fits fields) rows
-    writable : AllByRecursion (λ (row : Row). AllByRecursion IsWritable row) rows
+    writable : AllByRecursion (λ (row : Record). AllByRecursion IsWritable row) rows
 
-  filtered : (test : Row → Bool) (rows : List Row) → AreWritable rows → AreWritable (filter test rows)
+  filtered : (test : Record → Bool) (rows : List Record) → AreWritable rows → AreWritable (filter test rows)
   filtered test rows h = record {
     few = omega (arith, filter-le test rows, h.few);
     fit = all-filter (Fits fields) test rows h.fit;
-    writable = all-filter (λ (row : Row). AllByRecursion IsWritable row) test rows h.writable;
+    writable = all-filter (λ (row : Record). AllByRecursion IsWritable row) test rows h.writable;
   }
 
-  column-writable : (place : ℕ) (rows : List Row) → AreWritable rows → AllByRecursion IsWritable (column_values place rows)
+  column-writable : (place : ℕ) (rows : List Record) → AreWritable rows → AllByRecursion IsWritable (column_values place rows)
   column-writable place rows h =
-      all-filter IsWritable is_present (map (value_at place) rows)
-      (all-map IsWritable (value_at place) rows (λ (row : Row). AllByRecursion IsWritable row) (value-at-writable place) h.writable)
+      all-filter IsWritable is_non_null (map (value_at place) rows)
+      (all-map IsWritable (value_at place) rows (λ (row : Record). AllByRecursion IsWritable row) (value-at-writable place) h.writable)
 
-  sum-writable : (place : ℕ) (rows : List Row) → AreWritable rows → AllByRecursion IsWritable (state_values (state_over (function.Sum place) rows))
+  sum-writable : (place : ℕ) (rows : List Record) → AreWritable rows → AllByRecursion IsWritable (state_values (state_over (function.Sum place) rows))
   sum-writable place rows h =
       let sum = summed-fits fields (length rows) rows (omega arith) h.fit place in
       let n : ℕ = length (column_numbers place rows) in
       let few : n < 2 ^ 63 = omega (arith, sum.0, h.few) in
       (whole-writable (total (column_numbers place rows)) (sum-fits n (total (column_numbers place rows)) few sum.1), (count-writable n few, tt))
 
-  state-writable : (f : ColumnFunction) (rows : List Row) → AreWritable rows → AllByRecursion IsWritable (state_values (state_over f rows))
+  state-writable : (f : ColumnFunction) (rows : List Record) → AreWritable rows → AllByRecursion IsWritable (state_values (state_over f rows))
   state-writable function.CountRows rows h = (count-writable (length rows) h.few, tt)
   state-writable (function.Count place) rows h = (count-writable (length (column_values place rows)) (omega (arith, values-few fields (length rows) rows (omega arith) h.fit place, h.few)), tt)
   state-writable (function.CountDistinct place) rows h =
@@ -136,7 +136,7 @@ module _ (fields : List Field) where
       (find-such IsWritable (λ x. list_all (λ y. not (is_gt (value_order y x))) ds) ds null null-writable (column-writable place rows h), tt)
   state-writable (function.Avg place) rows h = sum-writable place rows h
 
-  state-by-writable : (keeps : Option (Row → Bool)) (f : ColumnFunction) (rows : List Row) → AreWritable rows → AllByRecursion IsWritable (state_values (state_by keeps f rows))
+  state-by-writable : (keeps : Option (Record → Bool)) (f : ColumnFunction) (rows : List Record) → AreWritable rows → AllByRecursion IsWritable (state_values (state_by keeps f rows))
   state-by-writable None function.CountRows rows h = tt
   state-by-writable None (function.Count place) rows h = state-writable (function.Count place) rows h
   state-by-writable None (function.CountDistinct place) rows h = state-writable (function.CountDistinct place) rows h
@@ -146,33 +146,33 @@ module _ (fields : List Field) where
   state-by-writable None (function.Avg place) rows h = state-writable (function.Avg place) rows h
   state-by-writable (Some keeps) f rows h = state-writable f (filter keeps rows) (filtered keeps rows h)
 
-  states-writable : (functions : List AggregateFunction) (rows : List Row) → AreWritable rows
+  states-writable : (functions : List AggregateFunction) (rows : List Record) → AreWritable rows
       → AllByRecursion (λ s. AllByRecursion IsWritable (state_values s)) (map (λ f. function_state f rows) functions)
   states-writable [] rows h = tt
   states-writable (f ∷ functions) rows h = (state-by-writable f.filter f.function rows h, states-writable functions rows h)
 
-  keys-writable : (set : List ℕ) (rows : List Row) → AreWritable rows → AllByRecursion (λ (key : Key). AllByRecursion IsWritable key) (keys set rows)
+  keys-writable : (set : List ℕ) (rows : List Record) → AreWritable rows → AllByRecursion (λ (key : Key). AllByRecursion IsWritable key) (keys set rows)
   keys-writable [] rows h = (tt, tt)
   keys-writable (place ∷ places) rows h =
       let set : List ℕ = place ∷ places in
       all-distinct (λ (key : Key). AllByRecursion IsWritable key) same_key (map (project set) rows)
-      (all-map (λ (key : Key). AllByRecursion IsWritable key) (project set) rows (λ (row : Row). AllByRecursion IsWritable row) (λ row all. projected-writable set row all) h.writable)
+      (all-map (λ (key : Key). AllByRecursion IsWritable key) (project set) rows (λ (row : Record). AllByRecursion IsWritable row) (λ row all. projected-writable set row all) h.writable)
 
-  group-writable : (set : List ℕ) (functions : List AggregateFunction) (rows : List Row) (key : Key) → AreWritable rows → AllByRecursion IsWritable key
+  group-writable : (set : List ℕ) (functions : List AggregateFunction) (rows : List Record) (key : Key) → AreWritable rows → AllByRecursion IsWritable key
       → AllByRecursion IsWritable (group_values (entry_over set functions rows key))
   group-writable set functions rows key h here =
-      let group : List Row = members set key rows in
+      let group : List Record = members set key rows in
       let kept : AreWritable group = filtered (λ row. same_key key (project set row)) rows h in
       let states : List FunctionState = map (λ f. function_state f group) functions in
       all-append IsWritable key (whole (pos (length group)) ∷ flat_map state_values states) here
       (count-writable (length group) kept.few, all-flat_map IsWritable state_values states (states-writable functions group kept))
 
   -- the values of the groups of records are writable
-  pub groups-writable : (set : List ℕ) (functions : List AggregateFunction) (rows : List Row) → length rows < 2 ^ 63
+  pub groups-writable : (set : List ℕ) (functions : List AggregateFunction) (rows : List Record) → length rows < 2 ^ 63
       → AllByRecursion (Fits fields) rows → AllByRecursion (λ row. AllByRecursion IsWritable row) rows → AllByRecursion IsWritable (groups_values (entries_over set functions rows))
   groups-writable set functions rows few fit writable =
       let h : AreWritable rows = record { few = few; fit = fit; writable = writable } in
       all-flat_map IsWritable group_values (entries_over set functions rows)
-      (all-map (λ (g : EntryForm). AllByRecursion IsWritable (group_values g)) (entry_over set functions rows) (in_order key_order (keys set rows)) (λ (key : Key). AllByRecursion IsWritable key)
+      (all-map (λ (g : EntryForm). AllByRecursion IsWritable (group_values g)) (entry_over set functions rows) (sorted_by key_order (keys set rows)) (λ (key : Key). AllByRecursion IsWritable key)
       (λ key here. group-writable set functions rows key h here)
       (all-ordered key_order (λ (key : Key). AllByRecursion IsWritable key) (keys set rows) (keys-writable set rows h)))

@@ -7,7 +7,7 @@ use Rattle.query_plan.specs.Planned.{PlannedQuery}
 use Rattle.tables.proofs.Following.{one-piece}
 use Rattle.tables.proofs.OnePiece.{behind-stands, own-input}
 use Rattle.tables.specs.Contents.{HasContents}
-use Rattle.semantics.specs.Parts.{ContentsForm, contents_over, closed, concatenated}
+use Rattle.semantics.specs.Parts.{ContentsForm, contents_over, newline_terminated, concatenated}
 use Rattle.values.specs.Results.{◌>>=◌}
 use Rattle.tables.specs.Partials.{HasOwnIndexes, StandsForInput, concatenation, whole_piece}
 use Rattle.tables.specs.Sound.{IsSoundUnder}
@@ -51,13 +51,13 @@ last-of {A} f (x ∷ xs) (c ∷ front) b e =
     record { before = x ∷ more.before; last = more.last; all = ap (λ (ys : List A). x ∷ ys) more.all; front_is = (λ i. here i ∷ more.front_is i); last_is = more.last_is }
 
 stands-alone : ContentsLaw → (plan : PlannedQuery) (partial : PartialState) (input : List ℕ) → IsSoundUnder plan partial → IsOfOnePiece partial → contents_in partial ≡ contents_over plan.fields plan.query input
-    → StandsForInput plan partial (closed input)
+    → StandsForInput plan partial (newline_terminated input)
 stands-alone law plan partial input sound one is =
-    law plan partial (closed input) sound
+    law plan partial (newline_terminated input) sound
     (subst (λ (c : ContentsForm). HasContents partial c) (is ∙ closed-contents plan.fields plan.query input) (record { refusals = one; groups = refl }))
 
-concatenated-push : (inputs : List (List ℕ)) (input : List ℕ) → concatenated inputs ++ closed input ≡ concatenated (inputs ++ input ∷ [])
-concatenated-push inputs input = sym (flat_map-append closed inputs (input ∷ []) ∙ ap (λ xs. concatenated inputs ++ xs) (flat_map-cons closed input [] ∙ append-nil (closed input)))
+concatenated-push : (inputs : List (List ℕ)) (input : List ℕ) → concatenated inputs ++ newline_terminated input ≡ concatenated (inputs ++ input ∷ [])
+concatenated-push inputs input = sym (flat_map-append newline_terminated inputs (input ∷ []) ∙ ap (λ xs. concatenated inputs ++ xs) (flat_map-cons newline_terminated input [] ∙ append-nil (newline_terminated input)))
 
 -- the first part stands for its input
 pub first-stands : ContentsLaw → (plan : PlannedQuery) (partial : PartialState) → IsSoundUnder plan partial → IsOfOnePiece partial → StandsForAll plan (contents_in partial ∷ []) partial
@@ -65,7 +65,7 @@ first-stands law plan partial sound one inputs e =
     let l = last-of (contents_over plan.fields plan.query) inputs [] (contents_in partial) e in
     let none : l.before ≡ [] = empty l.before l.front_is in
     subst (StandsForInput plan partial)
-    (ap (λ (xs : List (List ℕ)). concatenated xs ++ closed l.last) (sym none) ∙ concatenated-push l.before l.last ∙ ap concatenated (sym l.all))
+    (ap (λ (xs : List (List ℕ)). concatenated xs ++ newline_terminated l.last) (sym none) ∙ concatenated-push l.before l.last ∙ ap concatenated (sym l.all))
     (stands-alone law plan partial l.last sound one l.last_is)
   where
     empty : (xs : List (List ℕ)) → [] ≡ map (contents_over plan.fields plan.query) xs → xs ≡ []
@@ -78,11 +78,11 @@ follow-stands : ContentsLaw → (plan : PlannedQuery) (all : List ContentsForm) 
 follow-stands law plan all whole rest next stands sound one is inputs e =
     let l = last-of (contents_over plan.fields plan.query) inputs all (contents_in rest) e in
     let front = concatenated l.before in
-    let joined = front ++ closed l.last in
+    let joined = front ++ newline_terminated l.last in
     let before = stands l.before l.front_is in
     let behind = stands-alone law plan rest l.last sound one l.last_is in
-    let stands_for_one = is (own-input plan whole front before) (own-input plan rest (closed l.last) behind)
-    ∙ behind-stands plan whole rest front (closed l.last) before behind (concatenated-whole l.before) in
+    let stands_for_one = is (own-input plan whole front before) (own-input plan rest (newline_terminated l.last) behind)
+    ∙ behind-stands plan whole rest front (newline_terminated l.last) before behind (concatenated-whole l.before) in
     subst (StandsForInput plan next) (concatenated-push l.before l.last ∙ ap concatenated (sym l.all)) (record { pieces = whole_piece joined; stands = stands_for_one; cut = one-piece joined })
 
 -- ---- what is read

@@ -9,7 +9,7 @@ use Rattle.parts.specs.Inside.Hashing.{HoldsText}
 use Rattle.parts.specs.declared.checksum.TextHasher.{TextHasher}
 use Rattle.semantics.specs.Canonical.{canonical_text}
 use Rattle.semantics.specs.Columns.{Field}
-use Rattle.semantics.specs.Syntax.{TreeForm}
+use Rattle.semantics.specs.Syntax.{Query}
 use Rattle.semantics.specs.declared.line_fault.LineFault.{LineFault}
 use Rattle.tables.specs.Contents.{DiffersInGroups, HasRefusals}
 use Rattle.tables.specs.States.{PartialState}
@@ -26,7 +26,7 @@ hashed-group hasher bytes gs g h =
     subst (HoldsText hasher) (append_assoc bytes (text_of (groups_values gs)) (text_of (group_values g)) ∙ ap (λ xs. bytes ++ xs) (sym texts)) h
 
 -- before the groups a hasher was given the front of a part, and then them
-hashed-all : (hasher : TextHasher) (front : List ℕ) (fields : List Field) (q : TreeForm) (columns query : List ℕ) (lines count lines_too : ℕ) (refused refused_too : List (ℕ × LineFault)) (gs : List EntryForm)
+hashed-all : (hasher : TextHasher) (front : List ℕ) (fields : List Field) (q : Query) (columns query : List ℕ) (lines count lines_too : ℕ) (refused refused_too : List (ℕ × LineFault)) (gs : List EntryForm)
     → HoldsText hasher (front ++ text_of (groups_values gs)) → front ≡ text_of (front_of columns query fields lines refused count) → columns ≡ columns_text fields → query ≡ canonical_text q
     → lines_too ≡ lines → refused_too ≡ refused → length gs ≡ count → HoldsText hasher (text_of (values_with fields q (record { lines = lines_too; refused = refused_too; groups = gs })))
 hashed-all hasher front fields q columns query lines count lines_too refused refused_too gs h is c k l r n =
@@ -44,7 +44,7 @@ differs-more a b c h k = record {
 }
 
 -- what a hasher was given of a part with its groups
-pub contents-hashed : {E : Type 0} (r : Result Gathering E) (start : Gathering) (front : List ℕ) (fields fields_too : List Field) (q : TreeForm) (columns query : List ℕ) (lines count : ℕ) (refused seen : List (ℕ × LineFault))
+pub contents-hashed : {E : Type 0} (r : Result Gathering E) (start : Gathering) (front : List ℕ) (fields fields_too : List Field) (q : Query) (columns query : List ℕ) (lines count : ℕ) (refused seen : List (ℕ × LineFault))
     → IfOk r (λ next. (bytes : List ℕ) → HoldsText start.hasher bytes → HoldsText next.hasher (bytes ++ text_of (groups_values (groups_of next)))) → IfOk r (λ next. length (groups_of next) ≡ count)
     → IfOk r (λ next. DiffersInGroups start.partial next.partial) → HoldsText start.hasher front → HasRefusals lines refused start.partial → front ≡ text_of (front_of columns query fields_too lines seen count) → seen ≡ refused
     → fields_too ≡ fields → columns ≡ columns_text fields → query ≡ canonical_text q → IfOk r (λ so_far. HoldsText so_far.hasher (text_of (values_with fields q (contents_of so_far))))

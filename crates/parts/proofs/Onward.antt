@@ -9,7 +9,7 @@ use Rattle.part_lines.specs.Reading.{Stream, count_at, count_within, groups_at, 
 use Rattle.semantics.specs.Parts.{text_of, ContentsForm, columns_text, values_with}
 use Rattle.semantics.specs.Canonical.{canonical_text}
 use Rattle.semantics.specs.Columns.{Field}
-use Rattle.semantics.specs.Syntax.{TreeForm}
+use Rattle.semantics.specs.Syntax.{Query}
 use Rattle.semantics.specs.declared.line_fault.LineFault.{LineFault}
 use Rattle.values.specs.Results.{◌>>=◌}
 use Rattle.sha2.specs.Sha256.{sha256}
@@ -140,7 +140,7 @@ pub no-lines : (left : List (List ℕ)) → length left ≤ 0 → left ≡ []
 no-lines [] l = refl
 no-lines (line ∷ more) l = absurd (omega (arith, l))
 
-module _ (fields : List Field) (q : TreeForm) where
+module _ (fields : List Field) (q : Query) where
   abbrev shape : ShapeForm
   shape = shape_under fields q
 

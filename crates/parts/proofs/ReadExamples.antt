@@ -6,7 +6,7 @@ use Rattle.std.specs.Str.{is_utf8, chars}
 use Rattle.json.proofs.OnLiterals.{json_on_literals}
 use Rattle.serde_json.proofs.OnLiterals.{serde_json_on_literals}
 use Rattle.semantics.specs.Columns.{Field}
-use Rattle.semantics.specs.Syntax.{TreeForm, function, over_all}
+use Rattle.semantics.specs.Syntax.{Query, function, over_all}
 use Rattle.semantics.specs.Words.{reserved_word}
 use Rattle.semantics.specs.declared.aggregate.Aggregate.TheVariants as aggregate
 use Rattle.semantics.specs.declared.kind.Kind.TheVariants as kind
@@ -24,7 +24,7 @@ abbrev fields : List Field
 fields = record { name = codes "cents"; kind = kind.Int } ∷ []
 
 -- SELECT SUM(cents) AS s FROM lines
-abbrev query : TreeForm
+abbrev query : Query
 query = record {
   items = record { expression = function (over_all (aggregate.Sum (codes "cents"))); alias = Some (codes "s") } ∷ [];
   where_condition = None;

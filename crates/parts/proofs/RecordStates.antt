@@ -8,14 +8,14 @@ use Rattle.std.specs.List.Sorted.{IsStrictlySortedBy}
 use Rattle.std.specs.Ordering.{is_gt, is_lt}
 use Rattle.std.specs.Prelude.{FitsSigned}
 use Rattle.std.specs.declared.cmp.Ordering.{Ordering}
-use Rattle.semantics.specs.Aggregates.{AggregateFunction, column_numbers, column_values, greatest, is_present, least, number_of, numbers, present, same_value, total}
+use Rattle.semantics.specs.Aggregates.{AggregateFunction, column_numbers, column_values, maximum, is_non_null, minimum, number_of, numbers, non_null, same_value, total}
 use Rattle.semantics.specs.Columns.{Field}
-use Rattle.semantics.specs.Found.{aggregate_functions}
+use Rattle.semantics.specs.ResultRows.{aggregate_functions}
 use Rattle.semantics.specs.GroupStates.{different_values, function_state, state_by, state_over}
-use Rattle.semantics.specs.Groups.{Row, keys, project, same_key, value_at}
+use Rattle.semantics.specs.Groups.{Record, keys, project, same_key, value_at}
 use Rattle.semantics.specs.Names.{distinct}
 use Rattle.semantics.specs.Records.{Fits, Holds}
-use Rattle.semantics.specs.Syntax.{TreeForm}
+use Rattle.semantics.specs.Syntax.{Query}
 use Rattle.semantics.specs.Values.{Datum, boolean, whole, text, null, value_order}
 use Rattle.semantics.specs.declared.function.ColumnFunction.{ColumnFunction}
 use Rattle.semantics.specs.declared.function.ColumnFunction.TheVariants as function
@@ -64,32 +64,32 @@ some-such P (Some y) h x e = let same : y ≡ x = cc in subst P same h
 held-null : (k : Kind) → Holds k null
 held-null k = tt
 
-held-at : (fields : List Field) (place : ℕ) (row : Row) → Fits fields row → Holds (type_at fields place) (value_at place row)
+held-at : (fields : List Field) (place : ℕ) (row : Record) → Fits fields row → Holds (type_at fields place) (value_at place row)
 held-at [] place [] fits = held-null (type_at [] place)
 held-at [] place (d ∷ row) fits = absurd fits
 held-at (f ∷ fields) place [] fits = absurd fits
 held-at (f ∷ fields) zero (d ∷ row) fits = fits.0
 held-at (f ∷ fields) (suc place) (d ∷ row) fits = held-at fields place row fits.1
 
-column-held : (fields : List Field) (place : ℕ) (rows : List Row) → AllByRecursion (Fits fields) rows → AllByRecursion (Holds (type_at fields place)) (map (value_at place) rows)
+column-held : (fields : List Field) (place : ℕ) (rows : List Record) → AllByRecursion (Fits fields) rows → AllByRecursion (Holds (type_at fields place)) (map (value_at place) rows)
 column-held fields place [] fit = tt
 column-held fields place (row ∷ rows) fit = (held-at fields place row fit.0, column-held fields place rows fit.1)
 
-known : (d : Datum) → is_present d ≡ true → d ≢ null
-known d there none = true≢false (sym there ∙ ap is_present none)
+known : (d : Datum) → is_non_null d ≡ true → d ≢ null
+known d there none = true≢false (sym there ∙ ap is_non_null none)
 
-all-known : (ds : List Datum) → AllByRecursion (λ d. d ≢ null) (present ds)
-all-known ds = weaker known (present ds) (all-passed is_present ds)
+all-known : (ds : List Datum) → AllByRecursion (λ d. d ≢ null) (non_null ds)
+all-known ds = weaker known (non_null ds) (all-passed is_non_null ds)
 
-present-held : (k : Kind) (ds : List Datum) → AllByRecursion (Holds k) ds → AllByRecursion (Holds k) (present ds)
-present-held k ds all = all-filter (Holds k) is_present ds all
+present-held : (k : Kind) (ds : List Datum) → AllByRecursion (Holds k) ds → AllByRecursion (Holds k) (non_null ds)
+present-held k ds all = all-filter (Holds k) is_non_null ds all
 
 -- ---- the least and the greatest value
 
-least-held : (k : Kind) (ds : List Datum) → AllByRecursion (Holds k) ds → Holds k (least ds)
+least-held : (k : Kind) (ds : List Datum) → AllByRecursion (Holds k) ds → Holds k (minimum ds)
 least-held k ds all = find-such (Holds k) (λ x. list_all (λ y. not (is_lt (value_order y x))) ds) ds null (held-null k) all
 
-greatest-held : (k : Kind) (ds : List Datum) → AllByRecursion (Holds k) ds → Holds k (greatest ds)
+greatest-held : (k : Kind) (ds : List Datum) → AllByRecursion (Holds k) ds → Holds k (maximum ds)
 greatest-held k ds all = find-such (Holds k) (λ x. list_all (λ y. not (is_gt (value_order y x))) ds) ds null (held-null k) all
 
 -- ---- sums
@@ -148,9 +148,9 @@ different-held k ds held known = record {
 -- ---- states
 
 -- of records that fit, no more than the members
-module _ (fields : List Field) (members : ℕ) (rows : List Row) (few : length rows ≤ members) (fit : AllByRecursion (Fits fields) rows) where
+module _ (fields : List Field) (members : ℕ) (rows : List Record) (few : length rows ≤ members) (fit : AllByRecursion (Fits fields) rows) where
   pub values-few : (place : ℕ) → length (column_values place rows) ≤ members
-  values-few place = let a = filter-le is_present (map (value_at place) rows) in let b = length-map rows (value_at place) in omega (arith, a, b, few)
+  values-few place = let a = filter-le is_non_null (map (value_at place) rows) in let b = length-map rows (value_at place) in omega (arith, a, b, few)
 
   numbers-few : (place : ℕ) → length (column_numbers place rows) ≤ members
   numbers-few place = let a = kept-le number_of (map (value_at place) rows) in let b = length-map rows (value_at place) in omega (arith, a, b, few)
@@ -177,7 +177,7 @@ module _ (fields : List Field) (members : ℕ) (rows : List Row) (few : length r
   over-fits index (function.Max place) = greatest-held (type_at fields place) (column_values place rows) (values-held place)
   over-fits index (function.Avg place) = summed-fits place
 
-module _ (fields : List Field) (filters : List (Row → Bool)) (rows : List Row) (fit : AllByRecursion (Fits fields) rows) where
+module _ (fields : List Field) (filters : List (Record → Bool)) (rows : List Record) (fit : AllByRecursion (Fits fields) rows) where
   all-fits : (f : ColumnFunction) → IsStateFor (length rows) (state_kind_by fields (Some zero) f) (state_over f rows)
   all-fits f = over-fits fields (length rows) rows (omega arith) fit zero f
 
@@ -202,22 +202,22 @@ module _ (fields : List Field) (filters : List (Row → Bool)) (rows : List Row)
 
 -- ---- the keys and the states of records
 
-key-fits : (fields : List Field) (set : List ℕ) (row : Row) → Fits fields row → IsKeyFor (map (type_at fields) set) (project set row)
+key-fits : (fields : List Field) (set : List ℕ) (row : Record) → Fits fields row → IsKeyFor (map (type_at fields) set) (project set row)
 key-fits fields [] row fits = tt
 key-fits fields (place ∷ set) row fits = (held-at fields place row fits, key-fits fields set row fits)
 
-projected-fit : (fields : List Field) (set : List ℕ) (rows : List Row) → AllByRecursion (Fits fields) rows → AllByRecursion (IsKeyFor (map (type_at fields) set)) (map (project set) rows)
+projected-fit : (fields : List Field) (set : List ℕ) (rows : List Record) → AllByRecursion (Fits fields) rows → AllByRecursion (IsKeyFor (map (type_at fields) set)) (map (project set) rows)
 projected-fit fields set [] fit = tt
 projected-fit fields set (row ∷ rows) fit = (key-fits fields set row fit.0, projected-fit fields set rows fit.1)
 
 -- the keys of records have values that their columns hold
-pub keys-fit : (fields : List Field) (set : List ℕ) (rows : List Row) → AllByRecursion (Fits fields) rows → AllByRecursion (IsKeyFor (map (type_at fields) set)) (keys set rows)
+pub keys-fit : (fields : List Field) (set : List ℕ) (rows : List Record) → AllByRecursion (Fits fields) rows → AllByRecursion (IsKeyFor (map (type_at fields) set)) (keys set rows)
 keys-fit fields [] rows fit = (tt, tt)
 keys-fit fields (place ∷ set) rows fit =
     all-distinct (IsKeyFor (map (type_at fields) (place ∷ set))) same_key (map (project (place ∷ set)) rows) (projected-fit fields (place ∷ set) rows fit)
 
 -- the states over records are those of a group of so many members
-pub states-fit : (fields : List Field) (q : TreeForm) (rows : List Row) → AllByRecursion (Fits fields) rows
+pub states-fit : (fields : List Field) (q : Query) (rows : List Record) → AllByRecursion (Fits fields) rows
     → AreStatesFor (length rows) (map (state_kind fields) (indexed_functions fields q)) (map (λ f. function_state f rows) (aggregate_functions fields q))
 states-fit fields q rows fit =
     subst (λ (fs : List AggregateFunction). AreStatesFor (length rows) (map (state_kind fields) (indexed_functions fields q)) (map (λ f. function_state f rows) fs)) (bound-functions (plan_of fields q))

@@ -13,7 +13,7 @@ use Rattle.semantics.specs.Columns.{Field, names_of}
 use Rattle.semantics.specs.Conditions.{is_kept, kept_records}
 use Rattle.semantics.specs.Lines.{lines}
 use Rattle.semantics.specs.Records.{Fits, decode_line, refused_lines, valid_records}
-use Rattle.semantics.specs.Syntax.{TreeForm}
+use Rattle.semantics.specs.Syntax.{Query}
 use Rattle.semantics.specs.Texts.{fault_text}
 use Rattle.semantics.specs.Values.{Datum}
 use Rattle.semantics.specs.declared.line_fault.LineFault.{LineFault}
@@ -100,7 +100,7 @@ pub lines-parted : (fields : List Field) (input : List ℕ) → length (valid_re
 lines-parted fields input = parted-from 1 (map (decode_line fields) (lines input)) ∙ length-map (lines input) (decode_line fields)
 
 -- what WHERE keeps and what is refused are no more than the lines
-pub kept-few : (fields : List Field) (q : TreeForm) (input : List ℕ)
+pub kept-few : (fields : List Field) (q : Query) (input : List ℕ)
     → length (kept_records fields q (valid_records fields input)) + length (refused_lines fields input) ≤ length (lines input)
 kept-few fields q input =
     let records = valid_records fields input in
@@ -112,7 +112,7 @@ kept-few fields q input =
 -- ---- what holds of the records
 
 -- where a property holds of each record, it holds of each that WHERE keeps
-pub kept-all : (P : List Datum → Type 0) (fields : List Field) (q : TreeForm) (records : List (List Datum)) → AllByRecursion P records → AllByRecursion P (kept_records fields q records)
+pub kept-all : (P : List Datum → Type 0) (fields : List Field) (q : Query) (records : List (List Datum)) → AllByRecursion P records → AllByRecursion P (kept_records fields q records)
 kept-all P fields q records h = all-filter P (is_kept fields q) records h
 
 valid-more : (P : List Datum → Type 0) (answer : Answer) (found : List Answer) → ((r : List Datum) → answer ≡ Ok r → P r) → AllByRecursion P (filter_map result_ok found)
@@ -125,5 +125,5 @@ valid-fit fields [] = tt
 valid-fit fields (l ∷ ls) = valid-more (Fits fields) (decode_line fields l) (map (decode_line fields) ls) (decoded-fits fields l) (valid-fit fields ls)
 
 -- the records that WHERE keeps fit their columns
-pub records-fit : (fields : List Field) (q : TreeForm) (input : List ℕ) → AllByRecursion (Fits fields) (kept_records fields q (valid_records fields input))
+pub records-fit : (fields : List Field) (q : Query) (input : List ℕ) → AllByRecursion (Fits fields) (kept_records fields q (valid_records fields input))
 records-fit fields q input = kept-all (Fits fields) fields q (valid_records fields input) (valid-fit fields (lines input))

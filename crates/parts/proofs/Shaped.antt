@@ -19,7 +19,7 @@ use Rattle.semantics.specs.Groups.{Key, key_order}
 use Rattle.semantics.specs.Names.{kind_at}
 use Rattle.semantics.specs.Records.{Holds}
 use Rattle.semantics.specs.Sets.{grouping_places}
-use Rattle.semantics.specs.Syntax.{TreeForm}
+use Rattle.semantics.specs.Syntax.{Query}
 use Rattle.semantics.specs.Values.{Datum}
 use Rattle.semantics.specs.declared.function.ColumnFunction.{ColumnFunction}
 use Rattle.semantics.specs.declared.function.ColumnFunction.TheVariants as function
@@ -145,7 +145,7 @@ all-typed fields (f ∷ functions) members (s ∷ states) columns h = (typed fie
 
 -- ---- groups
 
-module _ (fields : List Field) (q : TreeForm) (last : Option Key) (left : ℕ) (g : EntryForm) (fits : known.IsGroupFor (shape_under fields q) last left g) where
+module _ (fields : List Field) (q : Query) (last : Option Key) (left : ℕ) (g : EntryForm) (fits : known.IsGroupFor (shape_under fields q) last left g) where
   group-form : IsEntryFor (indexed_functions fields q) g
   group-form = forms fields (indexed_functions fields q) g.members g.states fits.states
 

@@ -8,15 +8,15 @@ use Rattle.json.specs.Print.{quoted}
 use Rattle.semantics.specs.Canonical.{canonical_text}
 use Rattle.semantics.specs.Columns.{Field}
 use Rattle.semantics.specs.Conditions.{kept_records}
-use Rattle.semantics.specs.Found.{aggregate_functions}
+use Rattle.semantics.specs.ResultRows.{aggregate_functions}
 use Rattle.semantics.specs.GroupStates.{EntryForm, entries_over}
-use Rattle.semantics.specs.Groups.{Row}
+use Rattle.semantics.specs.Groups.{Record}
 use Rattle.semantics.specs.Joins.{CanBeJoined}
 use Rattle.semantics.specs.Lines.{lines}
-use Rattle.semantics.specs.Parts.{checksum, closed, columns_text, concatenated, contents_over, groups_values, header_of, number, part_text, part_values, refused_values, text_of}
+use Rattle.semantics.specs.Parts.{checksum, newline_terminated, columns_text, concatenated, contents_over, groups_values, header_of, number, part_text, part_values, refused_values, text_of}
 use Rattle.semantics.specs.Records.{Fits, refused_lines, valid_records}
 use Rattle.semantics.specs.Sets.{grouping_places}
-use Rattle.semantics.specs.Syntax.{TreeForm}
+use Rattle.semantics.specs.Syntax.{Query}
 use Rattle.semantics.specs.Values.{Datum}
 use Rattle.semantics.specs.declared.line_fault.LineFault.{LineFault}
 use Rattle.values.specs.Schema.{IsSchema}
@@ -47,9 +47,9 @@ use Rattle.parts.proofs.RefusedLines.{kept-all, kept-few, records-fit, refused-f
 together : (inputs : List (List ℕ)) → length (lines (concatenated inputs)) ≡ lines_together inputs
 together [] = refl
 together (input ∷ inputs) =
-    ap (λ bytes. length (lines bytes)) (flat_map-cons closed input inputs)
-    ∙ ap length (lines-whole_lines (closed input) (concatenated inputs) (closed-whole input))
-    ∙ length-append (lines (closed input)) (lines (concatenated inputs))
+    ap (λ bytes. length (lines bytes)) (flat_map-cons newline_terminated input inputs)
+    ∙ ap length (lines-whole_lines (newline_terminated input) (concatenated inputs) (closed-whole input))
+    ∙ length-append (lines (newline_terminated input)) (lines (concatenated inputs))
     ∙ (λ i. length (closed-lines input i) + together inputs i)
 
 -- ---- the contents of an input
@@ -59,12 +59,12 @@ within : (fields : List Field) (lines last : ℕ) (refused : List (ℕ × LineFa
 within fields lines last [] are = tt
 within fields lines last (x ∷ refused) are = (are.1, within fields lines x.0 refused are.3)
 
-all-written : (fields : List Field) (rows : List Row) → AllByRecursion (Fits fields) rows → AllByRecursion (λ row. AllByRecursion (TextIs IsShort) row) rows → AllByRecursion (λ row. AllByRecursion IsWritable row) rows
+all-written : (fields : List Field) (rows : List Record) → AllByRecursion (Fits fields) rows → AllByRecursion (λ row. AllByRecursion (TextIs IsShort) row) rows → AllByRecursion (λ row. AllByRecursion IsWritable row) rows
 all-written fields [] fit short = tt
 all-written fields (row ∷ rows) fit short = (record-writable fields row fit.0 short.0, all-written fields rows fit.1 short.1)
 
-module _ (fields : List Field) (q : TreeForm) (schema : IsSchema fields) (utf8 : IsTrue (is_utf8 (canonical_text q))) (columns : length (quoted (columns_text fields)) ≤ 1000000) (query : length (quoted (canonical_text q)) ≤ 1000000) where
-  abbrev kept : List ℕ → List Row
+module _ (fields : List Field) (q : Query) (schema : IsSchema fields) (utf8 : IsTrue (is_utf8 (canonical_text q))) (columns : length (quoted (columns_text fields)) ≤ 1000000) (query : length (quoted (canonical_text q)) ≤ 1000000) where
+  abbrev kept : List ℕ → List Record
   kept input = kept_records fields q (valid_records fields input)
 
   abbrev refused : List ℕ → List (ℕ × LineFault)

@@ -4,7 +4,7 @@ use Rattle.query_plan.specs.Planned.{PlannedQuery}
 use Rattle.lines.specs.Clip.{clip_lines}
 use Rattle.semantics.specs.Columns.{Field}
 use Rattle.semantics.specs.Lines.{lines}
-use Rattle.semantics.specs.Syntax.{TreeForm}
+use Rattle.semantics.specs.Syntax.{Query}
 use Rattle.semantics.specs.declared.join_fault.JoinFault.{JoinFault}
 use Rattle.semantics.specs.declared.join_fault.JoinFault.TheVariants.{Parts, Run}
 use Rattle.semantics.specs.Parts.{ContentsForm, contents_over, concatenated}
@@ -53,5 +53,5 @@ IsReadAs (Err (Parts fault)) read = read ≡ Err (parted_of fault)
 IsReadAs (Err (Run fault)) read = ⊤
 
 -- So it is of what is read of bytes.
-abbrev pub IsReadOf : {X : Type 0} → List Field → TreeForm → List ℕ → Result X JoinFault → Type 0
+abbrev pub IsReadOf : {X : Type 0} → List Field → Query → List ℕ → Result X JoinFault → Type 0
 IsReadOf fields q bytes result = IsReadAs result (parts_at fields q (lines (clip_lines bytes)))

@@ -9,7 +9,7 @@ use Rattle.semantics.specs.Canonical.{canonical_text}
 use Rattle.semantics.specs.Columns.{Field, names_of}
 use Rattle.semantics.specs.Names.{kind_at}
 use Rattle.semantics.specs.Sets.{grouping_places}
-use Rattle.semantics.specs.Syntax.{TreeForm}
+use Rattle.semantics.specs.Syntax.{Query}
 use Rattle.semantics.specs.Values.{Datum, text}
 use Rattle.semantics.specs.declared.function.ColumnFunction.{ColumnFunction}
 use Rattle.semantics.specs.declared.function.ColumnFunction.TheVariants as function
@@ -186,7 +186,7 @@ abbrev pub shape_over : List Field → List ℕ → List FilteredFunction → Sh
 shape_over fields places functions = record { columns = map (type_at fields) places; states = map (state_kind fields) functions }
 
 -- That of the groups of a query.
-abbrev pub shape_under : List Field → TreeForm → ShapeForm
+abbrev pub shape_under : List Field → Query → ShapeForm
 shape_under fields q = shape_over fields (grouping_places fields q) (indexed_functions fields q)
 
 -- Without grouping columns there is exactly one group.
@@ -211,12 +211,12 @@ header_of columns query s = do
   said_at query other_query c.1
 
 -- Those of a part under columns and a query.
-abbrev pub header_at : List Field → TreeForm → Stream → Result (Unit {0} × Stream) Fault
+abbrev pub header_at : List Field → Query → Stream → Result (Unit {0} × Stream) Fault
 header_at fields q s = header_of (columns_text fields) (canonical_text q) s
 
 -- The contents of a part, which has fewer than 2^63 lines with those before it: its lines, the refused
 -- ones of them, and the groups, of no more members together than there are good lines.
-unfoldable pub contents_at : List Field → TreeForm → ℕ → Stream → Result (ContentsForm × Stream) Fault
+unfoldable pub contents_at : List Field → Query → ℕ → Stream → Result (ContentsForm × Stream) Fault
 contents_at fields q before s = do
   n ← lines_at before s
   refused ← all_refused_at fields n.0 n.1
@@ -233,7 +233,7 @@ checksum_at bytes s = do
 
 -- A part, from its mark to its checksum. A value has one spelling: so the lines that were read are
 -- those of the values that were read.
-unfoldable pub part_at : List Field → TreeForm → ℕ → Stream → Result (ContentsForm × Stream) Fault
+unfoldable pub part_at : List Field → Query → ℕ → Stream → Result (ContentsForm × Stream) Fault
 part_at fields q before s = do
   header ← header_at fields q s
   contents ← contents_at fields q before header.1
@@ -251,7 +251,7 @@ where_lines (line ∷ more) read = read
 
 -- Parts up to the last line, but so many at most, that are numbered from `part` on and stand behind
 -- parts of so many lines.
-unfoldable pub parts_from : List Field → TreeForm → (most part before : ℕ) → Stream → Result (List ContentsForm) PartedFault
+unfoldable pub parts_from : List Field → Query → (most part before : ℕ) → Stream → Result (List ContentsForm) PartedFault
 parts_from fields q zero part before s = Ok []
 parts_from fields q (suc most) part before s = where_lines s.left (do
   x ← with_fault (in_part part) (part_at fields q before s)
@@ -259,6 +259,6 @@ parts_from fields q (suc most) part before s = where_lines s.left (do
 
 -- The parts that these lines are, of which there is one at least. A part has more than one line, so that
 -- there are no more parts than lines.
-abbrev pub parts_at : List Field → TreeForm → List (List ℕ) → Result (List ContentsForm) PartedFault
+abbrev pub parts_at : List Field → Query → List (List ℕ) → Result (List ContentsForm) PartedFault
 parts_at fields q [] = Err (record { part = 1; line = 1; kind = no_part })
 parts_at fields q (line ∷ more) = parts_from fields q (length (line ∷ more)) 1 0 (record { left = line ∷ more; place = 0 })

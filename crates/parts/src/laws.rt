@@ -2,8 +2,8 @@
 ghost use Rattle.std.specs.Prelude.{◌≡◌, [], ◌∷◌, ◌++◌, ℕ, List, map};
 ghost use Rattle.std.specs.List.{flat_map};
 ghost use Rattle.semantics.specs.Columns.{Field};
-ghost use Rattle.semantics.specs.Parts.{closed, concatenated, part_text};
-ghost use Rattle.semantics.specs.Syntax.{TreeForm};
+ghost use Rattle.semantics.specs.Parts.{newline_terminated, concatenated, part_text};
+ghost use Rattle.semantics.specs.Syntax.{Query};
 
 /// What makes trees of joins right, where the join of parts is the part of their inputs, one behind the other, each from a
 /// line of its own on (`concatenated`). The join of joins is the join of all their parts, in order. A part does not tell
@@ -18,9 +18,9 @@ ghost use Rattle.semantics.specs.Syntax.{TreeForm};
 pub fn parts_law()
     ensures joins { (trees : List (List (List ℕ)))
         → concatenated (map concatenated trees) ≡ concatenated (flat_map (λ inputs. inputs) trees) }
-    ensures closes { (fields : List Field) (q : TreeForm) (input : List ℕ)
-        → part_text fields q (closed input) ≡ part_text fields q input }
-    ensures front { (fields : List Field) (q : TreeForm) (first second : List ℕ)
-        → closed first ≡ first → part_text fields q (concatenated (first ∷ second ∷ []))
+    ensures closes { (fields : List Field) (q : Query) (input : List ℕ)
+        → part_text fields q (newline_terminated input) ≡ part_text fields q input }
+    ensures front { (fields : List Field) (q : Query) (first second : List ℕ)
+        → newline_terminated first ≡ first → part_text fields q (concatenated (first ∷ second ∷ []))
         ≡ part_text fields q (first ++ second) }
 {}

@@ -7,8 +7,8 @@ use Rattle.semantics.specs.declared.token.Token.TheVariants as tokens
 use Rattle.semantics.specs.declared.token.Word.TheVariants as w
 use Rattle.semantics.specs.declared.token.Sign.TheVariants as s
 use Rattle.semantics.specs.declared.aggregate.Aggregate.TheVariants.{CountRows}
-use Rattle.semantics.specs.Syntax.{ExpressionForm, TreeForm, over_all}
-use Rattle.semantics.specs.Leaves.{Limits, standard, IsAggregate, IsRepeated}
+use Rattle.semantics.specs.Syntax.{Expression, Query, over_all}
+use Rattle.semantics.specs.Leaves.{Limits, language_limits, IsAggregate, IsRepeated}
 use Rattle.semantics.specs.Productions.{IsFunction, IsExpression}
 use Rattle.semantics.specs.Grammar.{IsItem, IsGroupBy, IsOrderBy, IsQuery, DerivesWithin, IsClause}
 use Rattle.semantics.specs.Prefixes.{BeginsWithin, Begins, KeepsLimits, IsUnexpected, IsOverLimit}
@@ -21,32 +21,32 @@ count_of_lines : List Token
 count_of_lines = tokens.Word w.Count ∷ tokens.Sign s.Open ∷ tokens.Sign s.Star ∷ tokens.Sign s.Close ∷ tokens.Word w.From ∷ tokens.Name (codes "lines") ∷ []
 
 -- SELECT begins a query
-select_begins : BeginsWithin standard (tokens.Word w.Select ∷ [])
+select_begins : BeginsWithin language_limits (tokens.Word w.Select ∷ [])
 unfolding count_of_lines
 select_begins = record {
   rest = count_of_lines;
-  tree = record { items = record { expression = ExpressionForm.function (over_all CountRows); alias = None } ∷ []; where_condition = None; distinct_sets = false; groups = []; having_condition = None; keys = [] };
+  tree = record { items = record { expression = Expression.function (over_all CountRows); alias = None } ∷ []; where_condition = None; distinct_sets = false; groups = []; having_condition = None; keys = [] };
   derived = IsQuery.query (IsItem.plain (IsExpression.function (IsFunction.plain IsAggregate.count_rows))) IsRepeated.none (omega arith) IsClause.none IsGroupBy.none IsClause.none IsOrderBy.none;
 }
 
 -- no tokens begin one
-nothing_begins : BeginsWithin standard []
+nothing_begins : BeginsWithin language_limits []
 nothing_begins = record { rest = tokens.Word w.Select ∷ select_begins.rest; tree = select_begins.tree; derived = select_begins.derived }
 
 -- FROM begins none, within no limits
-from_derives_none : {limits : Limits} {ts : List Token} {q : TreeForm} → DerivesWithin limits (tokens.Word w.From ∷ ts) q → ⊥
+from_derives_none : {limits : Limits} {ts : List Token} {q : Query} → DerivesWithin limits (tokens.Word w.From ∷ ts) q → ⊥
 from_derives_none d = elim d [ ]
 
 from_begins_none : Begins (tokens.Word w.From ∷ []) → ⊥
 from_begins_none b = from_derives_none b.within.derived
 
 -- no tokens are no query
-nothing_derives_none : {limits : Limits} {q : TreeForm} → DerivesWithin limits [] q → ⊥
+nothing_derives_none : {limits : Limits} {q : Query} → DerivesWithin limits [] q → ⊥
 nothing_derives_none d = elim d [ ]
 
 -- of no tokens the end is not expected, and of FROM the first token
 nothing_before : Begins []
-nothing_before = record { limits = standard; within = nothing_begins }
+nothing_before = record { limits = language_limits; within = nothing_begins }
 
 end_unexpected : IsUnexpected [] 0
 end_unexpected = record { inside = omega arith; begins = nothing_before; keeps = KeepsLimits.begins nothing_begins; continues_none = λ h b. absurd (omega arith); derives_none = λ limits q d. nothing_derives_none d }
@@ -56,7 +56,7 @@ from_unexpected = record { inside = omega arith; begins = nothing_before; keeps 
 
 -- SELECT is no first token of these that is not expected, and the end behind FROM is not the place
 select_expected : IsUnexpected (tokens.Word w.Select ∷ []) 0 → ⊥
-select_expected u = u.continues_none (omega arith) record { limits = standard; within = select_begins }
+select_expected u = u.continues_none (omega arith) record { limits = language_limits; within = select_begins }
 
 from_not_its_end : IsUnexpected (tokens.Word w.From ∷ []) 1 → ⊥
 from_not_its_end u = from_begins_none u.begins

@@ -4,7 +4,7 @@ use Rattle.std.specs.Prelude.{codes}
 use Rattle.semantics.specs.declared.token.Token.TheVariants as tokens
 use Rattle.semantics.specs.declared.token.Word.TheVariants as w
 use Rattle.semantics.specs.Words.{name_text}
-use Rattle.semantics.specs.Syntax.{ElementForm, ElementForms, set, rollup, cube, sets, no_groups, group, element_forms}
+use Rattle.semantics.specs.Syntax.{GroupingElement, GroupingElements, set, rollup, cube, sets, no_groups, group, element_forms}
 use Rattle.semantics.specs.Canonical.{comma_list, in_brackets, unit_text, group_text, group_texts}
 use Rattle.query.proofs.Good.{Each, Inhabited, GoodName, GoodUnit, GoodSet, GoodGroup, GoodGroups, GoodElement}
 use Rattle.query.proofs.Onto.{name_onto, unit_onto, units_onto, group_onto, group_ontos}
@@ -36,17 +36,17 @@ sets_free : Free (codes "GROUPING SETS ") (λ ks. tokens.Word w.Grouping ∷ tok
 sets_free = free_free (word_free w.Grouping) (word_free w.Sets)
 
 mutual
-  group_goes : (x : ElementForm) (n : ℕ) → GoodGroup x n → Goes (group_text x) (group_onto x)
+  group_goes : (x : GroupingElement) (n : ℕ) → GoodGroup x n → Goes (group_text x) (group_onto x)
   group_goes (set ns) n g = set_goes ns g
   group_goes (rollup us) n g = free_goes (word_free w.Rollup) (units_go us g)
   group_goes (cube us) n g = free_goes (word_free w.Cube) (units_go us g)
   group_goes (sets gs) zero g = absurd g.1
   group_goes (sets gs) (suc n) g = free_goes sets_free (goes_of (brackets_free (commas_go (group_texts gs) (group_ontos gs) (inner_go gs n g.1))))
 
-  inner_go : (gs : ElementForms) (n : ℕ) → GoodGroups gs n → AllGo (group_texts gs) (group_ontos gs)
+  inner_go : (gs : GroupingElements) (n : ℕ) → GoodGroups gs n → AllGo (group_texts gs) (group_ontos gs)
   inner_go no_groups n g = tt
   inner_go (group x gs) n g = (group_goes x n g.0, inner_go gs n g.1)
 
-pub groups_go : (gs : List ElementForm) → Each GoodElement gs → AllGo (group_texts (element_forms gs)) (map group_onto gs)
+pub groups_go : (gs : List GroupingElement) → Each GoodElement gs → AllGo (group_texts (element_forms gs)) (map group_onto gs)
 groups_go [] g = tt
 groups_go (x ∷ gs) g = (group_goes x 16 g.0, groups_go gs g.1)

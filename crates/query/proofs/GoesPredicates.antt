@@ -13,7 +13,7 @@ use Rattle.semantics.specs.declared.token.Sign.TheVariants as s
 use Rattle.query_lexer.specs.Words.{word_text}
 use Rattle.query_lexer.specs.Steps.{token_at, sign_at, order_at, sign_behind_less, sign_behind_greater}
 use Rattle.semantics.specs.declared.literal.Literal.{Literal}
-use Rattle.semantics.specs.Syntax.{ExpressionForm, FunctionForm, OperandForm, PredicateForm, PredicateForms, name, grouping, function, over_all, over_filtered, or_of, and_of, not_of, truth_test, compare, between, member, null_test, column, no_parts, part}
+use Rattle.semantics.specs.Syntax.{Expression, SetFunction, Operand, Predicate, Predicates, name, grouping, function, over_all, over_filtered, or_of, and_of, not_of, truth_test, compare, between, member, null_test, column, no_parts, part}
 use Rattle.semantics.specs.Canonical.{op_text, truth_text, not_text, literal_text, function_text, expression_text, operand_text, precedence, bracketed_below, in_brackets, predicate_text, part_texts}
 use Rattle.query.proofs.Good.{Filled, GoodLiteral, GoodFunction, GoodExpression, GoodOperand, Deeper, Fits, Good, PartsFit}
 use Rattle.query.proofs.Onto.{Onto, op_sign, truth_word, not_onto, literal_onto, function_onto, expression_onto, operand_onto, brackets_onto, bracketed_onto, predicate_onto, part_ontos}
@@ -58,33 +58,33 @@ and_free = spaced_free (word_free w.And)
 -- ---- atoms
 
 -- An operand spells its tokens.
-abbrev OperandGoes : OperandForm → Type 0
+abbrev OperandGoes : Operand → Type 0
 OperandGoes x = Goes (operand_text x) (operand_onto x)
 
-spaced_operand : (x : OperandForm) → OperandGoes x → Free (operand_text x ++ codes " ") (operand_onto x)
+spaced_operand : (x : Operand) → OperandGoes x → Free (operand_text x ++ codes " ") (operand_onto x)
 spaced_operand x g = goes_free g (space_breaks []) space_free
 
 -- An operand, NOT where it is written, and a word.
-marked_free : (x : OperandForm) (n : Bool) (word : Word) → OperandGoes x
+marked_free : (x : Operand) (n : Bool) (word : Word) → OperandGoes x
     → Free (operand_text x ++ codes " " ++ not_text n ++ (word_text word ++ 32 ∷ [])) (λ ks. operand_onto x (not_onto n (tokens.Word word ∷ ks)))
 marked_free x n word g = free_free (free_free (spaced_operand x g) (not_free n)) (word_free word)
 
-compare_goes : (x : OperandForm) (o : Op) (y : OperandForm) → OperandGoes x → OperandGoes y
+compare_goes : (x : Operand) (o : Op) (y : Operand) → OperandGoes x → OperandGoes y
     → Goes (predicate_text (compare x o y)) (predicate_onto (compare x o y))
 compare_goes x o y g h = free_goes (op_free o (spaced_operand x g)) h
 
-between_goes : (x : OperandForm) (n : Bool) (y z : OperandForm) → OperandGoes x → OperandGoes y → OperandGoes z
+between_goes : (x : Operand) (n : Bool) (y z : Operand) → OperandGoes x → OperandGoes y → OperandGoes z
     → Goes (predicate_text (between x n y z)) (predicate_onto (between x n y z))
 between_goes x n y z g h k =
     let low = free_goes (marked_free x n w.Between g) h in
     free_goes (goes_free low (space_breaks _) and_free) k
 
-member_goes : (x : OperandForm) (n : Bool) (ls : List Literal) → OperandGoes x → Filled 64 GoodLiteral ls
+member_goes : (x : Operand) (n : Bool) (ls : List Literal) → OperandGoes x → Filled 64 GoodLiteral ls
     → Goes (predicate_text (member x n ls)) (predicate_onto (member x n ls))
 member_goes x n ls g h =
     goes_of (free_free (marked_free x n w.In g) (brackets_free (filled_go 64 GoodLiteral literal_text literal_onto literal_goes ls h)))
 
-null_goes : (x : OperandForm) (n : Bool) → OperandGoes x → Goes (predicate_text (null_test x n)) (predicate_onto (null_test x n))
+null_goes : (x : Operand) (n : Bool) → OperandGoes x → Goes (predicate_text (null_test x n)) (predicate_onto (null_test x n))
 null_goes x n g = free_goes (free_free (goes_free g (space_breaks _) is_free) (not_free n)) (word_goes w.Null)
 
 -- ---- parts
@@ -98,7 +98,7 @@ fits_some least has zero G (inl h) = absurd h.1
 fits_some least has (suc n) G (inl h) = (n, h.1)
 fits_some least has n G (inr h) = (n, h.1)
 
-part_goes : (least : ℕ) (p : PredicateForm) (n : ℕ) → ((m : ℕ) → Good p m → Goes (predicate_text p) (predicate_onto p))
+part_goes : (least : ℕ) (p : Predicate) (n : ℕ) → ((m : ℕ) → Good p m → Goes (predicate_text p) (predicate_onto p))
     → Fits least (precedence p) (Good p) n
     → Goes (bracketed_below least (precedence p) (predicate_text p)) (bracketed_onto least (precedence p) (predicate_onto p))
 part_goes least p n goes g = let h = fits_some least (precedence p) n (Good p) g in bracketed_at (nat_lt (precedence p) least) (goes h.0 h.1)
@@ -112,20 +112,20 @@ deeper_some zero G d = absurd d
 deeper_some (suc n) G d = (n, d)
 
 mutual
-  function_goes : (f : FunctionForm) (n : ℕ) → GoodFunction f n → Goes (function_text f) (function_onto f)
+  function_goes : (f : SetFunction) (n : ℕ) → GoodFunction f n → Goes (function_text f) (function_onto f)
   function_goes (over_all f) n g = aggregate_goes f g
   function_goes (over_filtered f p) n g = let h = deeper_some n (Good p) g.1 in filtered_goes f g.0 (predicate_goes p h.0 h.1)
 
-  pub expression_goes : (e : ExpressionForm) (n : ℕ) → GoodExpression e n → Goes (expression_text e) (expression_onto e)
+  pub expression_goes : (e : Expression) (n : ℕ) → GoodExpression e n → Goes (expression_text e) (expression_onto e)
   expression_goes (name m) n g = name_goes m g
   expression_goes (grouping ms) n g = grouping_goes ms g
   expression_goes (function f) n g = function_goes f n g
 
-  operand_goes : (x : OperandForm) (n : ℕ) → GoodOperand x n → OperandGoes x
-  operand_goes (OperandForm.expression e) n g = expression_goes e n g
-  operand_goes (OperandForm.literal a) n g = literal_goes a g
+  operand_goes : (x : Operand) (n : ℕ) → GoodOperand x n → OperandGoes x
+  operand_goes (Operand.expression e) n g = expression_goes e n g
+  operand_goes (Operand.literal a) n g = literal_goes a g
 
-  pub predicate_goes : (p : PredicateForm) (n : ℕ) → Good p n → Goes (predicate_text p) (predicate_onto p)
+  pub predicate_goes : (p : Predicate) (n : ℕ) → Good p n → Goes (predicate_text p) (predicate_onto p)
   predicate_goes (or_of ps) n g =
       list_goes (codes " OR ") (tokens.Word w.Or) (word_separates w.Or) (part_texts 1 ps) (part_ontos 1 ps) (parts_go 1 ps n g.1)
   predicate_goes (and_of ps) n g =
@@ -138,6 +138,6 @@ mutual
   predicate_goes (null_test x b) n g = null_goes x b (operand_goes x n g)
   predicate_goes (column m) n g = name_goes m g
 
-  parts_go : (least : ℕ) (ps : PredicateForms) (n : ℕ) → PartsFit least ps n → AllGo (part_texts least ps) (part_ontos least ps)
+  parts_go : (least : ℕ) (ps : Predicates) (n : ℕ) → PartsFit least ps n → AllGo (part_texts least ps) (part_ontos least ps)
   parts_go least no_parts n g = tt
   parts_go least (part p ps) n g = (part_goes least p n (predicate_goes p) g.0, parts_go least ps n g.1)

@@ -6,7 +6,7 @@ use Rattle.semantics.specs.declared.literal.Literal.{Literal}
 use Rattle.semantics.specs.declared.literal.Literal.TheVariants as literals
 use Rattle.semantics.specs.declared.aggregate.Aggregate.{Aggregate}
 use Rattle.semantics.specs.declared.aggregate.Aggregate.TheVariants as aggregates
-use Rattle.semantics.specs.Syntax.{ExpressionForm, FunctionForm, OperandForm, PredicateForm, PredicateForms, ElementForm, ElementForms, ItemForm, KeyForm, TreeForm, name, grouping, function, over_all, over_filtered, or_of, and_of, not_of, truth_test, compare, between, member, null_test, column, no_parts, part, set, rollup, cube, sets, no_groups, group}
+use Rattle.semantics.specs.Syntax.{Expression, SetFunction, Operand, Predicate, Predicates, GroupingElement, GroupingElements, SelectItem, SortKey, Query, name, grouping, function, over_all, over_filtered, or_of, and_of, not_of, truth_test, compare, between, member, null_test, column, no_parts, part, set, rollup, cube, sets, no_groups, group}
 use Rattle.semantics.specs.Canonical.{precedence}
 
 -- ---- lists
@@ -59,7 +59,7 @@ GoodLiteral (literals.Text t) = Unit {0}
 GoodLiteral (literals.Truth b) = Unit {0}
 
 -- OR and AND have two parts or more.
-abbrev pub IsMany : PredicateForms → Type 0
+abbrev pub IsMany : Predicates → Type 0
 IsMany no_parts = ⊥
 IsMany (part p no_parts) = ⊥
 IsMany (part p (part q ps)) = Unit {0}
@@ -75,20 +75,20 @@ Fits least has G n = ((has < least) × Deeper G n) ⊎ ((least ≤ has) × G n)
 
 -- The canonical text has at most n levels of brackets, of which those of a FILTER are one.
 abbrev mutual
-  pub GoodFunction : FunctionForm → ℕ → Type 0
+  pub GoodFunction : SetFunction → ℕ → Type 0
   GoodFunction (over_all f) n = GoodAggregate f
   GoodFunction (over_filtered f p) n = GoodAggregate f × Deeper (Good p) n
 
-  pub GoodExpression : ExpressionForm → ℕ → Type 0
+  pub GoodExpression : Expression → ℕ → Type 0
   GoodExpression (name n) m = GoodName n
   GoodExpression (grouping ns) m = Filled 8 GoodName ns
   GoodExpression (function f) m = GoodFunction f m
 
-  pub GoodOperand : OperandForm → ℕ → Type 0
-  GoodOperand (OperandForm.expression e) n = GoodExpression e n
-  GoodOperand (OperandForm.literal a) n = GoodLiteral a
+  pub GoodOperand : Operand → ℕ → Type 0
+  GoodOperand (Operand.expression e) n = GoodExpression e n
+  GoodOperand (Operand.literal a) n = GoodLiteral a
 
-  pub Good : PredicateForm → ℕ → Type 0
+  pub Good : Predicate → ℕ → Type 0
   Good (or_of ps) n = IsMany ps × PartsFit 1 ps n
   Good (and_of ps) n = IsMany ps × PartsFit 2 ps n
   Good (not_of p) n = Fits 3 (precedence p) (Good p) n
@@ -99,13 +99,13 @@ abbrev mutual
   Good (null_test x b) n = GoodOperand x n
   Good (column m) n = GoodName m
 
-  pub PartsFit : ℕ → PredicateForms → ℕ → Type 0
+  pub PartsFit : ℕ → Predicates → ℕ → Type 0
   PartsFit least no_parts n = Unit {0}
   PartsFit least (part p ps) n = Fits least (precedence p) (Good p) n × PartsFit least ps n
 
 -- ---- the query
 
-abbrev pub GoodItem : ItemForm → Type 0
+abbrev pub GoodItem : SelectItem → Type 0
 GoodItem i = GoodExpression i.expression 64 × Within GoodName i.alias
 
 -- A unit has one column at least, a set may have none.
@@ -116,24 +116,24 @@ abbrev pub GoodSet : List (List ℕ) → Type 0
 GoodSet = Each GoodName
 
 -- GROUPING SETS have one element at least.
-abbrev pub IsFilled : ElementForms → Type 0
+abbrev pub IsFilled : GroupingElements → Type 0
 IsFilled no_groups = ⊥
 IsFilled (group x gs) = Unit {0}
 
 -- The group has at most n levels of GROUPING SETS.
 abbrev mutual
-  pub GoodGroup : ElementForm → ℕ → Type 0
+  pub GoodGroup : GroupingElement → ℕ → Type 0
   GoodGroup (set ns) n = GoodSet ns
   GoodGroup (rollup us) n = Inhabited GoodUnit us
   GoodGroup (cube us) n = Inhabited GoodUnit us
   GoodGroup (sets gs) n = IsFilled gs × Deeper (GoodGroups gs) n
 
-  pub GoodGroups : ElementForms → ℕ → Type 0
+  pub GoodGroups : GroupingElements → ℕ → Type 0
   GoodGroups no_groups n = Unit {0}
   GoodGroups (group x gs) n = GoodGroup x n × GoodGroups gs n
 
 -- An element of GROUP BY.
-abbrev pub GoodElement : ElementForm → Type 0
+abbrev pub GoodElement : GroupingElement → Type 0
 GoodElement x = GoodGroup x 16
 
 -- DISTINCT is not written.
@@ -142,14 +142,14 @@ IsPlain true = ⊥
 IsPlain false = Unit {0}
 
 -- DISTINCT is written in front of one element at least.
-abbrev pub GoodGroupBy : Bool → List ElementForm → Type 0
+abbrev pub GoodGroupBy : Bool → List GroupingElement → Type 0
 GoodGroupBy d [] = IsPlain d
 GoodGroupBy d (x ∷ gs) = GoodElement x × Each GoodElement gs
 
-abbrev pub GoodKey : KeyForm → Type 0
+abbrev pub GoodKey : SortKey → Type 0
 GoodKey k = GoodExpression k.expression 64
 
-abbrev pub GoodTree : TreeForm → Type 0
+abbrev pub GoodTree : Query → Type 0
 GoodTree q = Filled 64 GoodItem q.items × Within (λ p. Good p 64) q.where_condition × GoodGroupBy q.distinct_sets q.groups × Within (λ p. Good p 64) q.having_condition × Each GoodKey q.keys
 
 -- ---- more levels of brackets do no harm
@@ -166,20 +166,20 @@ deeper_up : (G : ℕ → Type 0) → ((n : ℕ) → G n → G (suc n)) → (n : 
 deeper_up G up n d = deeper_more G up n d
 
 mutual
-  function_more : (f : FunctionForm) (n : ℕ) → GoodFunction f n → GoodFunction f (suc n)
+  function_more : (f : SetFunction) (n : ℕ) → GoodFunction f n → GoodFunction f (suc n)
   function_more (over_all f) n g = g
   function_more (over_filtered f p) n g = (g.0, deeper_up (Good p) (good_more p) n g.1)
 
-  expression_more : (e : ExpressionForm) (n : ℕ) → GoodExpression e n → GoodExpression e (suc n)
+  expression_more : (e : Expression) (n : ℕ) → GoodExpression e n → GoodExpression e (suc n)
   expression_more (name m) n g = g
   expression_more (grouping ms) n g = g
   expression_more (function f) n g = function_more f n g
 
-  operand_more : (x : OperandForm) (n : ℕ) → GoodOperand x n → GoodOperand x (suc n)
-  operand_more (OperandForm.expression e) n g = expression_more e n g
-  operand_more (OperandForm.literal a) n g = g
+  operand_more : (x : Operand) (n : ℕ) → GoodOperand x n → GoodOperand x (suc n)
+  operand_more (Operand.expression e) n g = expression_more e n g
+  operand_more (Operand.literal a) n g = g
 
-  pub good_more : (p : PredicateForm) (n : ℕ) → Good p n → Good p (suc n)
+  pub good_more : (p : Predicate) (n : ℕ) → Good p n → Good p (suc n)
   good_more (or_of ps) n g = (g.0, parts_more 1 ps n g.1)
   good_more (and_of ps) n g = (g.0, parts_more 2 ps n g.1)
   good_more (not_of p) n g = fits_more 3 (precedence p) (Good p) (good_more p) n g
@@ -190,9 +190,9 @@ mutual
   good_more (null_test x b) n g = operand_more x n g
   good_more (column m) n g = g
 
-  pub parts_more : (least : ℕ) (ps : PredicateForms) (n : ℕ) → PartsFit least ps n → PartsFit least ps (suc n)
+  pub parts_more : (least : ℕ) (ps : Predicates) (n : ℕ) → PartsFit least ps n → PartsFit least ps (suc n)
   parts_more least no_parts n g = tt
   parts_more least (part p ps) n g = (fits_more least (precedence p) (Good p) (good_more p) n g.0, parts_more least ps n g.1)
 
-pub deeper_good : (p : PredicateForm) (n : ℕ) → Deeper (Good p) n → Good p n
+pub deeper_good : (p : Predicate) (n : ℕ) → Deeper (Good p) n → Good p n
 deeper_good p n d = deeper_more (Good p) (good_more p) n d

@@ -15,7 +15,7 @@ use Rattle.semantics.specs.declared.literal.Literal.{Literal}
 use Rattle.semantics.specs.declared.literal.Literal.TheVariants as literals
 use Rattle.semantics.specs.declared.aggregate.Aggregate.{Aggregate}
 use Rattle.semantics.specs.declared.aggregate.Aggregate.TheVariants as aggregates
-use Rattle.semantics.specs.Syntax.{ExpressionForm, FunctionForm, OperandForm, PredicateForm, PredicateForms, ElementForm, ElementForms, ItemForm, KeyForm, TreeForm, name, grouping, function, over_all, over_filtered, or_of, and_of, not_of, truth_test, compare, between, member, null_test, column, no_parts, part, set, rollup, cube, sets, no_groups, group}
+use Rattle.semantics.specs.Syntax.{Expression, SetFunction, Operand, Predicate, Predicates, GroupingElement, GroupingElements, SelectItem, SortKey, Query, name, grouping, function, over_all, over_filtered, or_of, and_of, not_of, truth_test, compare, between, member, null_test, column, no_parts, part, set, rollup, cube, sets, no_groups, group}
 use Rattle.semantics.specs.Canonical.{precedence}
 
 -- Tokens in front of others.
@@ -91,20 +91,20 @@ abbrev pub filter_onto : Onto → Onto
 filter_onto f r = tokens.Word w.Filter ∷ tokens.Sign s.Open ∷ tokens.Word w.Where ∷ f (tokens.Sign s.Close ∷ r)
 
 abbrev mutual
-  pub function_onto : FunctionForm → Onto
+  pub function_onto : SetFunction → Onto
   function_onto (over_all f) = aggregate_onto f
   function_onto (over_filtered f p) = λ r. aggregate_onto f (filter_onto (predicate_onto p) r)
 
-  pub expression_onto : ExpressionForm → Onto
+  pub expression_onto : Expression → Onto
   expression_onto (name n) = name_onto n
   expression_onto (grouping ns) = argument_onto w.Grouping (commas_onto (map name_onto ns))
   expression_onto (function f) = function_onto f
 
-  pub operand_onto : OperandForm → Onto
-  operand_onto (OperandForm.expression e) = expression_onto e
-  operand_onto (OperandForm.literal a) = literal_onto a
+  pub operand_onto : Operand → Onto
+  operand_onto (Operand.expression e) = expression_onto e
+  operand_onto (Operand.literal a) = literal_onto a
 
-  pub predicate_onto : PredicateForm → Onto
+  pub predicate_onto : Predicate → Onto
   predicate_onto (or_of ps) = list_onto (tokens.Word w.Or) (part_ontos 1 ps)
   predicate_onto (and_of ps) = list_onto (tokens.Word w.And) (part_ontos 2 ps)
   predicate_onto (not_of p) = λ r. tokens.Word w.Not ∷ bracketed_onto 3 (precedence p) (predicate_onto p) r
@@ -116,7 +116,7 @@ abbrev mutual
   predicate_onto (null_test x n) = λ r. operand_onto x (tokens.Word w.Is ∷ not_onto n (tokens.Word w.Null ∷ r))
   predicate_onto (column n) = name_onto n
 
-  pub part_ontos : ℕ → PredicateForms → List Onto
+  pub part_ontos : ℕ → Predicates → List Onto
   part_ontos least no_parts = []
   part_ontos least (part p ps) = bracketed_onto least (precedence p) (predicate_onto p) ∷ part_ontos least ps
 
@@ -126,7 +126,7 @@ abbrev pub alias_onto : Option (List ℕ) → Onto
 alias_onto None r = r
 alias_onto (Some n) r = tokens.Word w.As ∷ tokens.Name n ∷ r
 
-abbrev pub item_onto : ItemForm → Onto
+abbrev pub item_onto : SelectItem → Onto
 item_onto i r = expression_onto i.expression (alias_onto i.alias r)
 
 -- A set or a unit.
@@ -140,20 +140,20 @@ abbrev pub units_onto : List (List (List ℕ)) → Onto
 units_onto us = brackets_onto (commas_onto (map unit_onto us))
 
 abbrev mutual
-  pub group_onto : ElementForm → Onto
+  pub group_onto : GroupingElement → Onto
   group_onto (set ns) = unit_onto ns
   group_onto (rollup us) = λ r. tokens.Word w.Rollup ∷ units_onto us r
   group_onto (cube us) = λ r. tokens.Word w.Cube ∷ units_onto us r
   group_onto (sets gs) = λ r. tokens.Word w.Grouping ∷ tokens.Word w.Sets ∷ brackets_onto (commas_onto (group_ontos gs)) r
 
-  pub group_ontos : ElementForms → List Onto
+  pub group_ontos : GroupingElements → List Onto
   group_ontos no_groups = []
   group_ontos (group x gs) = group_onto x ∷ group_ontos gs
 
 abbrev pub from_onto : Onto
 from_onto r = tokens.Word w.From ∷ tokens.Name (codes "lines") ∷ r
 
-abbrev pub where_onto : Option PredicateForm → Onto
+abbrev pub where_onto : Option Predicate → Onto
 where_onto None r = r
 where_onto (Some p) r = tokens.Word w.Where ∷ predicate_onto p r
 
@@ -161,11 +161,11 @@ abbrev pub distinct_onto : Bool → Onto
 distinct_onto true r = tokens.Word w.Distinct ∷ r
 distinct_onto false r = r
 
-abbrev pub group_by_onto : Bool → List ElementForm → Onto
+abbrev pub group_by_onto : Bool → List GroupingElement → Onto
 group_by_onto d [] r = r
 group_by_onto d (g ∷ gs) r = tokens.Word w.Group ∷ tokens.Word w.By ∷ distinct_onto d (commas_onto (map group_onto (g ∷ gs)) r)
 
-abbrev pub having_onto : Option PredicateForm → Onto
+abbrev pub having_onto : Option Predicate → Onto
 having_onto None r = r
 having_onto (Some p) r = tokens.Word w.Having ∷ predicate_onto p r
 
@@ -180,14 +180,14 @@ nulls_onto true false r = tokens.Word w.Nulls ∷ tokens.Word w.Last ∷ r
 nulls_onto false true r = tokens.Word w.Nulls ∷ tokens.Word w.First ∷ r
 nulls_onto false false r = r
 
-abbrev pub key_onto : KeyForm → Onto
+abbrev pub key_onto : SortKey → Onto
 key_onto k r = expression_onto k.expression (direction_onto k.descending (nulls_onto k.descending k.nulls_first r))
 
-abbrev pub order_by_onto : List KeyForm → Onto
+abbrev pub order_by_onto : List SortKey → Onto
 order_by_onto [] r = r
 order_by_onto (k ∷ ks) r = tokens.Word w.Order ∷ tokens.Word w.By ∷ commas_onto (map key_onto (k ∷ ks)) r
 
-abbrev pub query_onto : TreeForm → Onto
+abbrev pub query_onto : Query → Onto
 query_onto q r =
     tokens.Word w.Select ∷ commas_onto (map item_onto q.items)
     (from_onto (where_onto q.where_condition (group_by_onto q.distinct_sets q.groups (having_onto q.having_condition (order_by_onto q.keys r)))))

@@ -4,7 +4,7 @@ use Rattle.std.proofs.Math.IntN.{pos, negsuc}
 use Rattle.std.proofs.Math.Bridge.{le_prop}
 use Rattle.semantics.specs.declared.literal.Literal.TheVariants as literals
 use Rattle.semantics.specs.declared.aggregate.Aggregate.TheVariants as aggregates
-use Rattle.semantics.specs.Syntax.{ExpressionForm, FunctionForm, OperandForm, PredicateForm, PredicateForms, ElementForm, ElementForms, name, grouping, function, over_all, over_filtered, or_of, and_of, not_of, truth_test, compare, between, member, null_test, column, no_parts, part, set, rollup, cube, sets, no_groups, group}
+use Rattle.semantics.specs.Syntax.{Expression, SetFunction, Operand, Predicate, Predicates, GroupingElement, GroupingElements, name, grouping, function, over_all, over_filtered, or_of, and_of, not_of, truth_test, compare, between, member, null_test, column, no_parts, part, set, rollup, cube, sets, no_groups, group}
 use Rattle.semantics.specs.Canonical.{precedence}
 use Rattle.query.proofs.Good.{Each, Inhabited, Filled, Within, GoodName, GoodAggregate, GoodFunction, GoodExpression, InRange, GoodLiteral, GoodOperand, IsMany, Deeper, Fits, Good, PartsFit, GoodItem, GoodUnit, IsFilled, GoodGroup, GoodGroups, GoodElement, IsPlain, GoodGroupBy, GoodKey, GoodTree}
 
@@ -94,20 +94,20 @@ fits_one least has G one n =
     either_one inside alone (λ x y. let a = x.0 in let b = y.0 in omega arith)
 
 mutual
-  function_one : (f : FunctionForm) (n : ℕ) → IsProp (GoodFunction f n)
+  function_one : (f : SetFunction) (n : ℕ) → IsProp (GoodFunction f n)
   function_one (over_all f) n = aggregate_one f
   function_one (over_filtered f p) n = both_one (aggregate_one f) (deeper_one (Good p) (good_one p) n)
 
-  expression_one : (e : ExpressionForm) (n : ℕ) → IsProp (GoodExpression e n)
+  expression_one : (e : Expression) (n : ℕ) → IsProp (GoodExpression e n)
   expression_one (name m) n = name_one m
   expression_one (grouping ms) n = filled_one 8 GoodName name_one ms
   expression_one (function f) n = function_one f n
 
-  operand_one : (x : OperandForm) (n : ℕ) → IsProp (GoodOperand x n)
-  operand_one (OperandForm.expression e) n = expression_one e n
-  operand_one (OperandForm.literal a) n = literal_one a
+  operand_one : (x : Operand) (n : ℕ) → IsProp (GoodOperand x n)
+  operand_one (Operand.expression e) n = expression_one e n
+  operand_one (Operand.literal a) n = literal_one a
 
-  good_one : (p : PredicateForm) (n : ℕ) → IsProp (Good p n)
+  good_one : (p : Predicate) (n : ℕ) → IsProp (Good p n)
   good_one (or_of ps) n = both_one (many_one ps) (parts_one 1 ps n)
   good_one (and_of ps) n = both_one (many_one ps) (parts_one 2 ps n)
   good_one (not_of p) n = fits_one 3 (precedence p) (Good p) (good_one p) n
@@ -118,7 +118,7 @@ mutual
   good_one (null_test x b) n = operand_one x n
   good_one (column m) n = name_one m
 
-  parts_one : (least : ℕ) (ps : PredicateForms) (n : ℕ) → IsProp (PartsFit least ps n)
+  parts_one : (least : ℕ) (ps : Predicates) (n : ℕ) → IsProp (PartsFit least ps n)
   parts_one least no_parts n = unit_one
   parts_one least (part p ps) n = both_one (fits_one least (precedence p) (Good p) (good_one p) n) (parts_one least ps n)
 
@@ -135,13 +135,13 @@ is_filled_one no_groups = none_one
 is_filled_one (group x gs) = unit_one
 
 mutual
-  group_one : (x : ElementForm) (n : ℕ) → IsProp (GoodGroup x n)
+  group_one : (x : GroupingElement) (n : ℕ) → IsProp (GoodGroup x n)
   group_one (set ns) n = each_one GoodName name_one ns
   group_one (rollup us) n = unit_list_one us
   group_one (cube us) n = unit_list_one us
   group_one (sets gs) n = both_one (is_filled_one gs) (deeper_one (GoodGroups gs) (groups_one gs) n)
 
-  groups_one : (gs : ElementForms) (n : ℕ) → IsProp (GoodGroups gs n)
+  groups_one : (gs : GroupingElements) (n : ℕ) → IsProp (GoodGroups gs n)
   groups_one no_groups n = unit_one
   groups_one (group x gs) n = both_one (group_one x n) (groups_one gs n)
 

@@ -7,8 +7,8 @@ use Rattle.semantics.specs.declared.token.Token.{Token}
 use Rattle.semantics.specs.Tokens.{Spells, StopsAt}
 use Rattle.query_lexer.proofs.Unique.{one as spells_one}
 use Rattle.query_lexer.proofs.Stops.{decided as spells_or_stops, not_both as spells_and_stops, one as stops_one}
-use Rattle.semantics.specs.Syntax.{TreeForm}
-use Rattle.semantics.specs.Leaves.{standard}
+use Rattle.semantics.specs.Syntax.{Query}
+use Rattle.semantics.specs.Leaves.{language_limits}
 use Rattle.semantics.specs.Grammar.{DerivesWithin}
 use Rattle.semantics.specs.Reading.{Derives, SpellsTooMuch, IsUnexpectedAt, IsRefusalOf}
 use Rattle.semantics.specs.Prefixes.{IsUnexpected, IsOverLimit}
@@ -58,7 +58,7 @@ one text (faults.RepeatedHeader header) other f g = absurd f
 one text faults.OutOfMemory other f g = absurd f
 one text fault other f g = absurd g
 
-pub not_both : (text : List ℕ) (q : TreeForm) (fault : QueryFault) → Derives text q → IsRefusalOf text fault → ⊥
+pub not_both : (text : List ℕ) (q : Query) (fault : QueryFault) → Derives text q → IsRefusalOf text fault → ⊥
 not_both text q (faults.NoToken at) d f = spells_and_stops text d.starts d.tokens at d.spelled f.1
 not_both text q (faults.Unexpected byte) d f = let u = f.1 in (moved (λ ks. IsUnexpected ks u.place) d.spelled u.spelled u.unexpected).derives_none _ q d.derived
 not_both text q faults.OverLimit d f = of_over f where
@@ -82,7 +82,7 @@ byte_at (x ∷ xs) last zero h = (x, refl)
 byte_at (x ∷ xs) last (suc place) h = byte_at xs last place (omega (arith, h))
 
 abbrev Decided : List ℕ → Type 0
-Decided text = ((q : TreeForm) × Derives text q) ⊎ ((fault : QueryFault) × IsRefusalOf text fault)
+Decided text = ((q : Query) × Derives text q) ⊎ ((fault : QueryFault) × IsRefusalOf text fault)
 
 of_tokens : (text starts : List ℕ) (ks : List Token) → length text ≤ 65536 → Spells text ks starts → Decided text
 of_tokens text starts ks short s = elim (derives_or_goes_wrong ks) [
@@ -118,5 +118,5 @@ told_unexpected text byte short u fault f = inl (one text (faults.Unexpected byt
 pub told_too_much : (text : List ℕ) → SpellsTooMuch text → Told text faults.OverLimit
 told_too_much text o fault f = inl (one text faults.OverLimit fault (inr o) f)
 
-pub told_query : (text starts : List ℕ) (ks : List Token) (q : TreeForm) → length text ≤ 65536 → Spells text ks starts → DerivesWithin standard ks q → (fault : QueryFault) → IsRefusalOf text fault → ⊥
+pub told_query : (text starts : List ℕ) (ks : List Token) (q : Query) → length text ≤ 65536 → Spells text ks starts → DerivesWithin language_limits ks q → (fault : QueryFault) → IsRefusalOf text fault → ⊥
 told_query text starts ks q short s d fault f = not_both text q fault record { short = short; tokens = ks; starts = starts; spelled = s; derived = d } f

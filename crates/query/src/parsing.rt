@@ -2,7 +2,7 @@
 
 ghost use Rattle.std.specs.Prelude.{◌≡◌, ◌<◌, ◌≤◌, ◌-◌, ◌⊎◌, [], ◌∷◌, ◌++◌, ℕ, Err, IfErr, IfOk, MatchResult, Some, length, slice_get, vec_len};
 ghost use Rattle.semantics.specs.declared.query_fault.QueryFault.TheVariants.{OutOfMemory, OverLimit};
-ghost use Rattle.semantics.specs.Syntax.{TreeForm};
+ghost use Rattle.semantics.specs.Syntax as syntax;
 ghost use Rattle.semantics.specs.Reading.{Derives, IsRefusalOf, Refuses};
 ghost use Rattle.semantics.specs.Limits.{max_query_len};
 
@@ -33,7 +33,7 @@ pub fn parse(alloc: Global, text: &str) -> Result<Query, QueryFault>
     // What is read is derived.
     ensures derived { IfOk result (λ query. Derives text.now query) }
     // What is derived is read, and no other, unless memory runs out.
-    ensures read { (q : TreeForm) → Derives text.now q
+    ensures read { (q : syntax.Query) → Derives text.now q
         → MatchResult result (λ query. query ≡ q) (λ fault. fault ≡ OutOfMemory) }
     // A text that is too long has no other fault.
     ensures too_long { max_query_len < length text.now → result ≡ Err OverLimit }

@@ -7,7 +7,7 @@ use Rattle.semantics.specs.declared.truth.Truth.TheVariants.{True, Unknown, Fals
 use Rattle.semantics.specs.Values.{Datum, boolean, whole, null}
 use Rattle.semantics.specs.Columns.{Field}
 use Rattle.semantics.specs.declared.literal.Literal.TheVariants as constant
-use Rattle.semantics.specs.Syntax.{OperandForm, PredicateForm, name, expression, literal, or_of, and_of, not_of, truth_test, compare, between, member, column, no_parts, part}
+use Rattle.semantics.specs.Syntax.{Operand, Predicate, name, expression, literal, or_of, and_of, not_of, truth_test, compare, between, member, column, no_parts, part}
 use Rattle.semantics.specs.Conditions.{passes, where_truth}
 
 abbrev fields : List Field
@@ -17,16 +17,16 @@ fields = record { name = codes "a"; kind = kind.Bool } ∷ record { name = codes
 abbrev records : List (List Datum)
 records = (boolean true ∷ whole (pos 1) ∷ []) ∷ (boolean false ∷ whole (pos 2) ∷ []) ∷ (null ∷ whole (pos 3) ∷ []) ∷ (boolean true ∷ null ∷ []) ∷ []
 
-abbrev worth : PredicateForm → List Truth
+abbrev worth : Predicate → List Truth
 worth p = map (λ values. where_truth fields (Some p) values) records
 
-abbrev a : PredicateForm
+abbrev a : Predicate
 a = column (codes "a")
 
-abbrev value_of_a : OperandForm
+abbrev value_of_a : Operand
 value_of_a = expression (name (codes "a"))
 
-abbrev value_of_q : OperandForm
+abbrev value_of_q : Operand
 value_of_q = expression (name (codes "q"))
 
 -- a

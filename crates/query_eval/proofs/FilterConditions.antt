@@ -5,7 +5,7 @@ use Rattle.std.specs.List.{list_all}
 use Rattle.std.proofs.lemmas.List.{at_drop_all, drop_more}
 use Rattle.semantics.specs.Values.{Datum}
 use Rattle.semantics.specs.Columns.{Field}
-use Rattle.semantics.specs.Syntax.{PredicateForm}
+use Rattle.semantics.specs.Syntax.{Predicate}
 use Rattle.query_eval.specs.declared.condition.Condition.{Condition}
 use Rattle.query_eval.specs.Meaning.{condition_truth, is_safe}
 use Rattle.query_eval.specs.Binding.{AreConditionsOf, GivesPredicate, IsConditionOf, IsSafeWhereTyped}
@@ -21,11 +21,11 @@ second_holds true b h = h
 second_holds false b h = absurd cc
 
 -- A condition that is worth what a predicate is, and can be evaluated where that is typed, is its condition.
-pub filter_condition : (fields : List Field) (p : PredicateForm) (c : Condition) → GivesPredicate (record_scope fields) p c → IsSafeWhereTyped (record_scope fields) p c → IsConditionOf fields (Some p) (Some c)
+pub filter_condition : (fields : List Field) (p : Predicate) (c : Condition) → GivesPredicate (record_scope fields) p c → IsSafeWhereTyped (record_scope fields) p c → IsConditionOf fields (Some p) (Some c)
 filter_condition fields p c gives safe = record { worth = λ values. gives values; safe = λ grouped typed values fits. safe grouped typed values (record-values fields values fits) }
 
 -- One filter more, and its condition.
-pub conditions_push : (fields : List Field) (ps : List PredicateForm) (cs : List Condition) (p : PredicateForm) (c : Condition) → AreConditionsOf fields ps cs → IsConditionOf fields (Some p) (Some c) → AreConditionsOf fields (ps ++ p ∷ []) (cs ++ c ∷ [])
+pub conditions_push : (fields : List Field) (ps : List Predicate) (cs : List Condition) (p : Predicate) (c : Condition) → AreConditionsOf fields ps cs → IsConditionOf fields (Some p) (Some c) → AreConditionsOf fields (ps ++ p ∷ []) (cs ++ c ∷ [])
 conditions_push fields [] [] p c h k = (k, tt)
 conditions_push fields [] (d ∷ cs) p c h k = absurd h
 conditions_push fields (q ∷ ps) [] p c h k = absurd h

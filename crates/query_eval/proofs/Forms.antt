@@ -12,7 +12,8 @@ use Rattle.query_ast.specs.declared.expression.Predicate.TheVariants as predicat
 use Rattle.query_ast.specs.declared.expression.Expression.TheOpen as predicate_layer
 use Rattle.query_ast.specs.declared.expression.Expression.TheFolds.{fold-roll-Predicate}
 use Rattle.query_ast.specs.declared.expression.Expression.TheViews.{roll-Predicate}
-use Rattle.semantics.specs.Syntax.{ExpressionForm, FunctionForm, OperandForm, PredicateForm, and_of, column, or_of, predicate_forms}
+use Rattle.semantics.specs.Syntax as syntax
+use Rattle.semantics.specs.Syntax.{and_of, column, or_of, predicate_forms}
 use Rattle.query_ast.specs.Syntax.{expression_step, function_step, operand_step, predicate_form, predicate_step}
 use Rattle.query_eval.specs.declared.condition.OperandSource.{OperandSource}
 use Rattle.query_eval.specs.declared.condition.Condition.{Condition}
@@ -61,14 +62,14 @@ name-safe x values = at values (fold-roll-Condition (List Datum → Bool) safe_s
 
 pub or_form : (v : Vec Predicate) → predicate_form (predicate.Or v) ≡ or_of (predicate_forms (map predicate_form v.items))
 or_form v = ap predicate_form (sym (predicate.rolls-Or v))
-    ∙ fold-roll-Predicate ExpressionForm OperandForm PredicateForm FunctionForm expression_step operand_step predicate_step function_step (predicate_layer.Or v)
+    ∙ fold-roll-Predicate syntax.Expression syntax.Operand syntax.Predicate syntax.SetFunction expression_step operand_step predicate_step function_step (predicate_layer.Or v)
 
 pub and_form : (v : Vec Predicate) → predicate_form (predicate.And v) ≡ and_of (predicate_forms (map predicate_form v.items))
 and_form v = ap predicate_form (sym (predicate.rolls-And v))
-    ∙ fold-roll-Predicate ExpressionForm OperandForm PredicateForm FunctionForm expression_step operand_step predicate_step function_step (predicate_layer.And v)
+    ∙ fold-roll-Predicate syntax.Expression syntax.Operand syntax.Predicate syntax.SetFunction expression_step operand_step predicate_step function_step (predicate_layer.And v)
 
 -- ---- the form of a bare name
 
 pub column_form : (n : List ℕ) → predicate_form (predicate.Column n) ≡ column n
 unfolding roll-Predicate denote.Hole.Carrier.roll
-column_form n = fold-roll-Predicate ExpressionForm OperandForm PredicateForm FunctionForm expression_step operand_step predicate_step function_step (predicate_layer.Column n)
+column_form n = fold-roll-Predicate syntax.Expression syntax.Operand syntax.Predicate syntax.SetFunction expression_step operand_step predicate_step function_step (predicate_layer.Column n)

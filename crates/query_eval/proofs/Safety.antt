@@ -16,7 +16,7 @@ use Rattle.semantics.specs.Records.{Fits, Holds}
 use Rattle.semantics.specs.Columns.{Field, names_of}
 use Rattle.semantics.specs.declared.literal.Literal.{Literal}
 use Rattle.semantics.specs.declared.literal.Literal.TheVariants as constant
-use Rattle.semantics.specs.Syntax.{ExpressionForm, OperandForm, name, grouping, function, over_all, over_filtered, expression, literal}
+use Rattle.semantics.specs.Syntax.{Expression, Operand, name, grouping, function, over_all, over_filtered, expression, literal}
 use Rattle.query_typecheck.specs.declared.scope.Clause.TheVariants as clause
 use Rattle.semantics.specs.Names.{column_kind, kind_at, place_of}
 use Rattle.query_typecheck.specs.Typing.{IsOfOneKind, IsTypedExpression, IsTypedName, IsTypedOperand}
@@ -137,7 +137,7 @@ column-of fields n k values has fits =
     none-has h = cc
 
 -- the value of an expression of WHERE
-expression-of : (fields : List Field) (grouped : List ℕ) (e : ExpressionForm) (k : Kind) (values : List Datum)
+expression-of : (fields : List Field) (grouped : List ℕ) (e : Expression) (k : Kind) (values : List Datum)
     → IsTypedExpression fields grouped clause.Where e → expression_kind fields e ≡ Some k → Fits fields values → is_of k (record_value fields values e) ≡ true
 expression-of fields grouped (name n) k values typed has fits = column-of fields n k values has fits
 expression-of fields grouped (grouping ns) k values typed has fits = absurd typed
@@ -153,7 +153,7 @@ record-values fields values fits = record {
 
 -- ---- operands under a scope
 
-operand-of : (scope : ScopeForm) (grouped : List ℕ) (x : OperandForm) (k : Kind) (values : List Datum)
+operand-of : (scope : ScopeForm) (grouped : List ℕ) (x : Operand) (k : Kind) (values : List Datum)
     → AreValuesOf scope values → IsTypedOperand scope.fields grouped scope.clause x → operand_kind scope.fields x ≡ Some k → is_of k (operand_value (scope.value values) x) ≡ true
 operand-of scope grouped (expression e) k values are typed has = are.kinds grouped e k typed has
 operand-of scope grouped (literal a) k values are typed has = subst (λ l. is_of l (literal_value a) ≡ true) (some-is (literal_kind a) k has) (is_of-literal a)
@@ -162,7 +162,7 @@ operand-of scope grouped (literal a) k values are typed has = subst (λ l. is_of
     some-is x y h = cc
 
 -- the values of two operands of one type can be compared
-comparable-typed : (scope : ScopeForm) (grouped : List ℕ) (x y : OperandForm) (values : List Datum)
+comparable-typed : (scope : ScopeForm) (grouped : List ℕ) (x y : Operand) (values : List Datum)
     → AreValuesOf scope values → IsTypedOperand scope.fields grouped scope.clause x → IsTypedOperand scope.fields grouped scope.clause y
     → IsOfOneKind (operand_kind scope.fields x) (operand_kind scope.fields y)
     → comparable (operand_value (scope.value values) x) (operand_value (scope.value values) y) ≡ true
@@ -170,7 +170,7 @@ comparable-typed scope grouped x y values are xt yt one =
     comparable-of one.0 _ _ (operand-of scope grouped x one.0 values are xt one.1) (operand-of scope grouped y one.0 values are yt one.2)
 
 -- the value of an operand can be compared with those of literals of its type
-comparable-literals : (scope : ScopeForm) (grouped : List ℕ) (x : OperandForm) (ls : List Literal) (values : List Datum)
+comparable-literals : (scope : ScopeForm) (grouped : List ℕ) (x : Operand) (ls : List Literal) (values : List Datum)
     → AreValuesOf scope values → IsTypedOperand scope.fields grouped scope.clause x → All (λ a. IsOfOneKind (operand_kind scope.fields x) (Some (literal_kind a))) ls
     → list_all (comparable (operand_value (scope.value values) x)) (map literal_value ls) ≡ true
 comparable-literals scope grouped x ls values are xt same = go ls (recursion_from_All (λ a. IsOfOneKind (operand_kind scope.fields x) (Some (literal_kind a))) ls same)
@@ -183,11 +183,11 @@ comparable-literals scope grouped x ls values are xt same = go ls (recursion_fro
 -- ---- their sources
 
 -- the value of a source is there
-pub there : (scope : ScopeForm) (values : List Datum) (x : OperandForm) (s : OperandSource) → GivesOperand scope x s → AreValuesOf scope values → is_there values s ≡ true
+pub there : (scope : ScopeForm) (values : List Datum) (x : Operand) (s : OperandSource) → GivesOperand scope x s → AreValuesOf scope values → is_there values s ≡ true
 there scope values x s gives are = gives.there values are.count
 
 -- those of operands of one type can be compared
-pub compared : (scope : ScopeForm) (grouped : List ℕ) (values : List Datum) (x y : OperandForm) (s t : OperandSource)
+pub compared : (scope : ScopeForm) (grouped : List ℕ) (values : List Datum) (x y : Operand) (s t : OperandSource)
     → GivesOperand scope x s → GivesOperand scope y t → AreValuesOf scope values
     → IsTypedOperand scope.fields grouped scope.clause x → IsTypedOperand scope.fields grouped scope.clause y
     → IsOfOneKind (operand_kind scope.fields x) (operand_kind scope.fields y) → comparable (source_value values s) (source_value values t) ≡ true
@@ -195,7 +195,7 @@ compared scope grouped values x y s t gives other are xt yt one =
     ap (λ a. comparable a (source_value values t)) (gives.value values) ∙ ap (comparable (operand_value (scope.value values) x)) (other.value values)
     ∙ comparable-typed scope grouped x y values are xt yt one
 
-pub compared-all : (scope : ScopeForm) (grouped : List ℕ) (values : List Datum) (x : OperandForm) (s : OperandSource) (ls : List Literal) (ds : List Datum)
+pub compared-all : (scope : ScopeForm) (grouped : List ℕ) (values : List Datum) (x : Operand) (s : OperandSource) (ls : List Literal) (ds : List Datum)
     → GivesOperand scope x s → ds ≡ map literal_value ls → AreValuesOf scope values → IsTypedOperand scope.fields grouped scope.clause x
     → All (λ a. IsOfOneKind (operand_kind scope.fields x) (Some (literal_kind a))) ls → list_all (comparable (source_value values s)) ds ≡ true
 compared-all scope grouped values x s ls ds gives same are xt one =

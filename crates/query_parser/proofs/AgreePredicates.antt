@@ -4,7 +4,7 @@ use Rattle.semantics.specs.declared.token.Token.{Token}
 use Rattle.semantics.specs.declared.token.Token.TheVariants as tokens
 use Rattle.semantics.specs.declared.token.Word.TheVariants as w
 use Rattle.semantics.specs.declared.token.Sign.TheVariants as s
-use Rattle.semantics.specs.Syntax.{OperandForm}
+use Rattle.semantics.specs.Syntax.{Operand}
 use Rattle.semantics.specs.Leaves.{Limits}
 use Rattle.query_parser.specs.Inside.Stops.{Stop}
 use Rattle.query_parser.specs.Inside.Fronts.{is_word, is_sign, after}
@@ -22,7 +22,7 @@ agrees_level true true h ts k = k
 agrees_level true false h ts k = absurd (let e = h refl in cc)
 
 -- The literals behind IN.
-member_agrees : (n m : ℕ) → n ≤ m → (x : OperandForm) (b : Bool) (ts : List Token) → Agrees (member_after n x b ts) (member_after m x b ts)
+member_agrees : (n m : ℕ) → n ≤ m → (x : Operand) (b : Bool) (ts : List Token) → Agrees (member_after n x b ts) (member_after m x b ts)
 unfolding member_after
 member_agrees n m few x b ts = agrees_bind (literals_agree n m few ts) (λ ls. Agrees.same)
 
@@ -51,17 +51,17 @@ module _ (inside wide : Inside) (wider : Wider inside.limits wide.limits) (level
   unfolding operand_at
   operand_agrees ts = agrees_choose (literal_at ts) (agrees_bind (expression_agrees ts) (λ e. Agrees.same)) (λ a. Agrees.same)
 
-  between_agrees : (x : OperandForm) (n : Bool) (ts : List Token) → Agrees (between_after inside x n ts) (between_after wide x n ts)
+  between_agrees : (x : Operand) (n : Bool) (ts : List Token) → Agrees (between_after inside x n ts) (between_after wide x n ts)
   unfolding between_after
   between_agrees x n ts = agrees_bind (operand_agrees ts) (λ y. agrees_bind Agrees.same (λ a. agrees_bind (operand_agrees a) (λ z. Agrees.same)))
 
-  negated_agrees : (x : OperandForm) (ts : List Token) → Agrees (negated_after inside x ts) (negated_after wide x ts)
+  negated_agrees : (x : Operand) (ts : List Token) → Agrees (negated_after inside x ts) (negated_after wide x ts)
   unfolding negated_after
   negated_agrees x ts = agrees_choose (after (is_word w.In) ts)
       (agrees_bind Agrees.same (λ a. between_agrees x true a))
       (λ a. member_agrees inside.limits.literals wide.limits.literals wider.literals x true a)
 
-  atom_agrees : (x : OperandForm) (ts : List Token) → Agrees (atom_after inside x ts) (atom_after wide x ts)
+  atom_agrees : (x : Operand) (ts : List Token) → Agrees (atom_after inside x ts) (atom_after wide x ts)
   unfolding atom_after
   atom_agrees x ts = agrees_choose (op_at ts)
       (agrees_choose (after (is_word w.Not) ts)

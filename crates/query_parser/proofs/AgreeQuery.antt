@@ -4,7 +4,7 @@ use Rattle.semantics.specs.declared.token.Token.{Token}
 use Rattle.semantics.specs.declared.token.Word.{Word}
 use Rattle.semantics.specs.declared.token.Word.TheVariants as w
 use Rattle.semantics.specs.declared.token.Sign.TheVariants as s
-use Rattle.semantics.specs.Syntax.{ElementForm}
+use Rattle.semantics.specs.Syntax.{GroupingElement}
 use Rattle.semantics.specs.Leaves.{Limits}
 use Rattle.query_parser.specs.Inside.Fronts.{is_word, is_sign, after}
 use Rattle.query_parser.specs.Inside.Steps.{Reader, unexpected_at, found_or_unexpected}
@@ -32,7 +32,7 @@ enclosed_agree begins part wide_part h ts =
 
 -- ---- groups
 
-element_agrees : (nested wide_nested : Reader ElementForm) → ((ts : List Token) → Agrees (nested ts) (wide_nested ts))
+element_agrees : (nested wide_nested : Reader GroupingElement) → ((ts : List Token) → Agrees (nested ts) (wide_nested ts))
     → (ts : List Token) → Agrees (element_at nested ts) (element_at wide_nested ts)
 unfolding element_at
 element_agrees nested wide_nested h ts = agrees_choose (after (is_word w.Rollup) ts)

@@ -4,7 +4,7 @@ use Rattle.semantics.specs.declared.token.Token.{Token}
 use Rattle.semantics.specs.declared.token.Token.TheVariants as tokens
 use Rattle.semantics.specs.declared.token.Word.TheVariants as w
 use Rattle.semantics.specs.declared.token.Sign.TheVariants as s
-use Rattle.semantics.specs.Syntax.{ElementForm, sets, element_forms}
+use Rattle.semantics.specs.Syntax.{GroupingElement, sets, element_forms}
 use Rattle.query_parser.specs.Inside.Fronts.{is_word, is_sign, after}
 use Rattle.query_parser.specs.Inside.Steps.{Reader, found_or_unexpected, name_at, begins_name}
 use Rattle.query_parser.specs.Inside.PredicateSteps.{any_front}
@@ -78,11 +78,11 @@ set_begins (IsSet.unit (IsUnit.columns b)) = record { no_rollup = refl; no_cube 
 -- ---- groups
 
 -- What reads the bracketed elements behind GROUPING.
-abbrev ReadsSets : Derivation ElementForm → Reader ElementForm → Type 0
-ReadsSets IsInner nested = (ts mid r : List Token) (g : ElementForm) (gs : List ElementForm) → IsInner ts g mid → IsRepeated (tokens.Sign s.Comma) IsInner mid gs (tokens.Sign s.Close ∷ r)
+abbrev ReadsSets : Derivation GroupingElement → Reader GroupingElement → Type 0
+ReadsSets IsInner nested = (ts mid r : List Token) (g : GroupingElement) (gs : List GroupingElement) → IsInner ts g mid → IsRepeated (tokens.Sign s.Comma) IsInner mid gs (tokens.Sign s.Close ∷ r)
     → nested (tokens.Word w.Sets ∷ tokens.Sign s.Open ∷ ts) ≡ Ok (sets (element_forms (g ∷ gs)), r)
 
-element_c : (IsInner : Derivation ElementForm) (nested : Reader ElementForm) → ReadsSets IsInner nested → {ts r : List Token} {g : ElementForm} → IsElement IsInner ts g r → element_at nested ts ≡ Ok (g, r)
+element_c : (IsInner : Derivation GroupingElement) (nested : Reader GroupingElement) → ReadsSets IsInner nested → {ts r : List Token} {g : GroupingElement} → IsElement IsInner ts g r → element_at nested ts ≡ Ok (g, r)
 unfolding element_at
 element_c IsInner nested reads (IsElement.set p) = rw ((set_begins p).no_rollup, (set_begins p).no_cube, (set_begins p).no_grouping, set_c p) refl
 element_c IsInner nested reads (IsElement.rollup p b) = rw (units_c p b) refl
@@ -90,7 +90,7 @@ element_c IsInner nested reads (IsElement.cube p b) = rw (units_c p b) refl
 element_c IsInner nested reads (IsElement.sets {ts} {mid} {r} {g} {gs} p b) = rw (reads ts mid r g gs p b) refl
 
 -- No element begins with DISTINCT, since that is no name.
-element_begins : (IsInner : Derivation ElementForm) {ts r : List Token} {g : ElementForm} → IsElement IsInner ts g r → after (is_word w.Distinct) ts ≡ None
+element_begins : (IsInner : Derivation GroupingElement) {ts r : List Token} {g : GroupingElement} → IsElement IsInner ts g r → after (is_word w.Distinct) ts ≡ None
 element_begins IsInner (IsElement.set IsSet.none) = refl
 element_begins IsInner (IsElement.set (IsSet.unit IsUnit.column)) = refl
 element_begins IsInner (IsElement.set (IsSet.unit (IsUnit.columns b))) = refl
@@ -98,12 +98,12 @@ element_begins IsInner (IsElement.rollup p b) = refl
 element_begins IsInner (IsElement.cube p b) = refl
 element_begins IsInner (IsElement.sets p b) = refl
 
-pub group_begins : (n : ℕ) (ts r : List Token) (g : ElementForm) → IsGroup n ts g r → after (is_word w.Distinct) ts ≡ None
+pub group_begins : (n : ℕ) (ts r : List Token) (g : GroupingElement) → IsGroup n ts g r → after (is_word w.Distinct) ts ≡ None
 unfolding IsGroup
 group_begins zero ts r g p = element_begins (λ ts g r. ⊥) p
 group_begins (suc n) ts r g p = element_begins (IsGroup n) p
 
-element_short : (IsInner : Derivation ElementForm) → Shrinks IsInner → Shrinks (IsElement IsInner)
+element_short : (IsInner : Derivation GroupingElement) → Shrinks IsInner → Shrinks (IsElement IsInner)
 element_short IsInner short _ _ _ (IsElement.set {ts} {r} {ns} p) = set_short ts r ns p
 element_short IsInner short _ _ _ (IsElement.rollup {ts} {mid} {r} {u} {us} p b) = omega (arith, unit_short ts mid u p, repeated_short (tokens.Sign s.Comma) IsUnit unit_short b)
 element_short IsInner short _ _ _ (IsElement.cube {ts} {mid} {r} {u} {us} p b) = omega (arith, unit_short ts mid u p, repeated_short (tokens.Sign s.Comma) IsUnit unit_short b)
@@ -114,12 +114,12 @@ unfolding IsGroup
 group_short zero ts r g p = element_short (λ ts g r. ⊥) (λ ts r g p. absurd p) ts r g p
 group_short (suc n) ts r g p = element_short (IsGroup n) (group_short n) ts r g p
 
-sets_c : (n m : ℕ) → ((ts r : List Token) (g : ElementForm) → IsGroup n ts g r → group_at m ts ≡ Ok (g, r)) → ReadsSets (IsGroup n) (sets_at (suc m))
+sets_c : (n m : ℕ) → ((ts r : List Token) (g : GroupingElement) → IsGroup n ts g r → group_at m ts ≡ Ok (g, r)) → ReadsSets (IsGroup n) (sets_at (suc m))
 unfolding sets_at
 sets_c n m complete ts mid r g gs p b = rw (enclosed_c any_front (IsGroup n) (group_at m) complete (group_short n) p b) refl
 
 -- A group that derives with at most n levels is read with more of them.
-pub group_c : (n m : ℕ) → n ≤ m → (ts r : List Token) (g : ElementForm) → IsGroup n ts g r → group_at m ts ≡ Ok (g, r)
+pub group_c : (n m : ℕ) → n ≤ m → (ts r : List Token) (g : GroupingElement) → IsGroup n ts g r → group_at m ts ≡ Ok (g, r)
 unfolding IsGroup
 group_c zero m few ts r g p = element_c (λ ts g r. ⊥) (sets_at m) (λ ts mid r g gs q b. absurd q) p
 group_c (suc n) zero few ts r g p = absurd (omega arith)

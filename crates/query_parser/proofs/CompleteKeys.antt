@@ -4,7 +4,7 @@ use Rattle.semantics.specs.declared.token.Token.{Token}
 use Rattle.semantics.specs.declared.token.Token.TheVariants as tokens
 use Rattle.semantics.specs.declared.token.Word.TheVariants as w
 use Rattle.semantics.specs.declared.token.Sign.TheVariants as s
-use Rattle.semantics.specs.Syntax.{KeyForm}
+use Rattle.semantics.specs.Syntax.{SortKey}
 use Rattle.semantics.specs.Leaves.{Limits}
 use Rattle.query_parser.specs.Inside.Fronts.{is_word, is_sign, after}
 use Rattle.query_parser.proofs.Agree.{Wider}
@@ -63,7 +63,7 @@ direction_filter IsDirection.none q = q
 direction_filter IsDirection.ascending q = refl
 direction_filter IsDirection.descending q = refl
 
-key_c : {narrow wide : Limits} → Wider narrow wide → (ts r : List Token) (k : KeyForm) → IsKey narrow ts k r → EndsKey r → key_at wide ts ≡ Ok (k, r)
+key_c : {narrow wide : Limits} → Wider narrow wide → (ts r : List Token) (k : SortKey) → IsKey narrow ts k r → EndsKey r → key_at wide ts ≡ Ok (k, r)
 unfolding key_at
 key_c {narrow} {wide} wider _ _ _ (IsKey.key e d n) q =
     rw (
@@ -89,7 +89,7 @@ key_short limits _ _ _ (IsKey.key {ts} {u} {v} {r} {e} p d n) =
 comma_ends : (ts : List Token) → EndsKey (tokens.Sign s.Comma ∷ ts)
 comma_ends ts = record { no_filter = refl; direction = record { no_asc = refl; no_desc = refl }; no_nulls = refl }
 
-pub keys_c : {narrow wide : Limits} → Wider narrow wide → {ts r : List Token} {ks : List KeyForm} → IsOrderBy narrow ts ks r → EndsKeys r → keys_at wide ts ≡ Ok (ks, r)
+pub keys_c : {narrow wide : Limits} → Wider narrow wide → {ts r : List Token} {ks : List SortKey} → IsOrderBy narrow ts ks r → EndsKeys r → keys_at wide ts ≡ Ok (ks, r)
 unfolding keys_at
 keys_c wider IsOrderBy.none q = rw q.no_order refl
 keys_c {narrow} {wide} wider (IsOrderBy.keys {ts} {mid} {r} {k} {ks} p b) q =

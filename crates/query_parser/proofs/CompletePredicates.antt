@@ -4,7 +4,7 @@ use Rattle.semantics.specs.declared.token.Token.{Token}
 use Rattle.semantics.specs.declared.token.Token.TheVariants as tokens
 use Rattle.semantics.specs.declared.token.Word.TheVariants as w
 use Rattle.semantics.specs.declared.token.Sign.TheVariants as s
-use Rattle.semantics.specs.Syntax.{PredicateForm}
+use Rattle.semantics.specs.Syntax.{Predicate}
 use Rattle.semantics.specs.Leaves.{Limits, Derivation}
 use Rattle.query_parser.specs.Inside.Fronts.{is_word, after}
 use Rattle.query_parser.specs.Inside.LeafSteps.{op_at}
@@ -57,28 +57,28 @@ nil_ends = record { conjunction = record { test = record { no_filter = refl; no_
 
 -- ---- predicates
 
-module _ (limits : Limits) (IsInner : Derivation PredicateForm) (inside : Inside) (wider : Wider limits inside.limits) (inside_c : IsComplete IsInner inside) where
-  test_c : {ts r : List Token} {p : PredicateForm} → IsTest limits IsInner ts p r → EndsTest r → test_at inside ts ≡ Ok (p, r)
+module _ (limits : Limits) (IsInner : Derivation Predicate) (inside : Inside) (wider : Wider limits inside.limits) (inside_c : IsComplete IsInner inside) where
+  test_c : {ts r : List Token} {p : Predicate} → IsTest limits IsInner ts p r → EndsTest r → test_at inside ts ≡ Ok (p, r)
   unfolding test_at
   test_c (IsTest.plain (IsPrimary.brackets {ts} {r} {p} i)) q = rw ((inside_c ts r p i).read, test_none limits IsInner inside wider inside_c p r q.no_is) refl
   test_c (IsTest.plain (IsPrimary.atom a)) q = rw ((atom_begins limits IsInner inside wider inside_c a).no_open, atom_c limits IsInner inside wider inside_c a q) refl
   test_c (IsTest.test {u = u} (IsPrimary.brackets {ts} {p = p} i) m t) q = rw ((inside_c ts (tokens.Word w.Is ∷ u) p i).read, test_some limits IsInner inside wider inside_c p m t) refl
   test_c (IsTest.test (IsPrimary.atom a) m t) q = rw ((atom_begins limits IsInner inside wider inside_c a).no_open, atom_test_c limits IsInner inside wider inside_c a m t) refl
 
-  primary_no_not : {ts r : List Token} {p : PredicateForm} → IsPrimary limits IsInner ts p r → after (is_word w.Not) ts ≡ None
+  primary_no_not : {ts r : List Token} {p : Predicate} → IsPrimary limits IsInner ts p r → after (is_word w.Not) ts ≡ None
   primary_no_not (IsPrimary.brackets i) = refl
   primary_no_not (IsPrimary.atom a) = (atom_begins limits IsInner inside wider inside_c a).no_not
 
-  test_no_not : {ts r : List Token} {p : PredicateForm} → IsTest limits IsInner ts p r → after (is_word w.Not) ts ≡ None
+  test_no_not : {ts r : List Token} {p : Predicate} → IsTest limits IsInner ts p r → after (is_word w.Not) ts ≡ None
   test_no_not (IsTest.plain i) = primary_no_not i
   test_no_not (IsTest.test i m t) = primary_no_not i
 
-  negation_c : {ts r : List Token} {p : PredicateForm} → IsNegation limits IsInner ts p r → EndsTest r → negation_at inside ts ≡ Ok (p, r)
+  negation_c : {ts r : List Token} {p : Predicate} → IsNegation limits IsInner ts p r → EndsTest r → negation_at inside ts ≡ Ok (p, r)
   unfolding negation_at
   negation_c (IsNegation.plain i) q = rw (test_no_not i, test_c i q) refl
   negation_c (IsNegation.not i) q = rw (test_c i q) refl
 
-  conjunction_c : Shrinks (IsNegation limits IsInner) → {ts r : List Token} {p : PredicateForm} → IsConjunction limits IsInner ts p r → EndsConjunction r → conjunction_at inside ts ≡ Ok (p, r)
+  conjunction_c : Shrinks (IsNegation limits IsInner) → {ts r : List Token} {p : Predicate} → IsConjunction limits IsInner ts p r → EndsConjunction r → conjunction_at inside ts ≡ Ok (p, r)
   unfolding conjunction_at
   conjunction_c short (IsConjunction.parts {ts} {mid} {r} {p} {ps} i b) q =
       rw (
@@ -86,7 +86,7 @@ module _ (limits : Limits) (IsInner : Derivation PredicateForm) (inside : Inside
         unlimited_c (tokens.Word w.And) (is_word w.And) any_front (IsNegation limits IsInner) (negation_at inside) EndsTest refl and_ends (λ _ _ _ j k. negation_c j k) short b q.test q.no_and,
       ) refl
 
-  disjunction_c : Shrinks (IsNegation limits IsInner) → Shrinks (IsConjunction limits IsInner) → {ts r : List Token} {p : PredicateForm} → IsDisjunction limits IsInner ts p r → EndsPredicate r → disjunction_at inside ts ≡ Ok (p, r)
+  disjunction_c : Shrinks (IsNegation limits IsInner) → Shrinks (IsConjunction limits IsInner) → {ts r : List Token} {p : Predicate} → IsDisjunction limits IsInner ts p r → EndsPredicate r → disjunction_at inside ts ≡ Ok (p, r)
   unfolding disjunction_at
   disjunction_c short short_parts (IsDisjunction.parts {ts} {mid} {r} {p} {ps} i b) q =
       rw (
@@ -96,7 +96,7 @@ module _ (limits : Limits) (IsInner : Derivation PredicateForm) (inside : Inside
 
 -- ---- what a predicate takes
 
-module _ (limits : Limits) (IsInner : Derivation PredicateForm) (short : Shrinks IsInner) where
+module _ (limits : Limits) (IsInner : Derivation Predicate) (short : Shrinks IsInner) where
   primary_short : Shrinks (IsPrimary limits IsInner)
   primary_short _ _ _ (IsPrimary.brackets {ts} {r} {p} i) = omega (arith, short ts (tokens.Sign s.Close ∷ r) p i)
   primary_short _ _ _ (IsPrimary.atom a) = atom_short limits IsInner short _ _ _ a
@@ -121,14 +121,14 @@ predicate_short limits zero ts r p i = absurd i
 predicate_short limits (suc n) ts r p i = disjunction_short limits (IsPredicate limits n) (predicate_short limits n) ts r p i
 
 -- Where a predicate derives, a level of brackets is left, and where more of them may be.
-level_left : (limits : Limits) (n m : ℕ) → n ≤ m → (ts r : List Token) (p : PredicateForm) → IsPredicate limits n ts p r → has_level m ≡ true
+level_left : (limits : Limits) (n m : ℕ) → n ≤ m → (ts r : List Token) (p : Predicate) → IsPredicate limits n ts p r → has_level m ≡ true
 unfolding IsPredicate has_level
 level_left limits zero m few ts r p i = absurd i
 level_left limits (suc n) zero few ts r p i = absurd (omega arith)
 level_left limits (suc n) (suc m) few ts r p i = refl
 
 -- A predicate that derives within some limits is read within wider ones.
-pub predicate_c : (narrow wide : Limits) → Wider narrow wide → (n m : ℕ) → n ≤ m → (ts r : List Token) (p : PredicateForm) → IsPredicate narrow n ts p r → EndsPredicate r → predicate_at wide m ts ≡ Ok (p, r)
+pub predicate_c : (narrow wide : Limits) → Wider narrow wide → (n m : ℕ) → n ≤ m → (ts r : List Token) (p : Predicate) → IsPredicate narrow n ts p r → EndsPredicate r → predicate_at wide m ts ≡ Ok (p, r)
 unfolding IsPredicate predicate_at
 predicate_c narrow wide wider zero m few ts r p i q = absurd i
 predicate_c narrow wide wider (suc n) zero few ts r p i q = absurd (omega arith)

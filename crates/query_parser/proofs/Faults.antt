@@ -9,9 +9,9 @@ use Rattle.std.specs.Prelude.{Box, IfOk}
 use Rattle.std.specs.Global.{Global}
 use Rattle.std.proofs.Math.Seq.{take-append_seam}
 use Rattle.query_ast.specs.declared.tree.Tree.{Tree}
-use Rattle.semantics.specs.Syntax.{TreeForm}
+use Rattle.semantics.specs.Syntax.{Query}
 use Rattle.query_ast.specs.Syntax.{tree_form}
-use Rattle.semantics.specs.Leaves.{Limits, standard}
+use Rattle.semantics.specs.Leaves.{Limits, language_limits}
 use Rattle.semantics.specs.Grammar.{DerivesWithin}
 use Rattle.semantics.specs.Prefixes.{BeginsWithin, Begins, KeepsLimits, IsUnexpected, IsOverLimit}
 use Rattle.query_parser.specs.declared.fault.GrammarFault.{GrammarFault}
@@ -53,7 +53,7 @@ begins_sooner {limits} {front} b i = record {
 }
 
 -- What keeps the limits before one token more that does not count.
-keeps_one_more : (front : List Token) (t : Token) → BeginsWithin standard front → KeepsLimits (front ++ t ∷ []) → (i : ℕ) → KeepsLimits (take i (front ++ t ∷ []))
+keeps_one_more : (front : List Token) (t : Token) → BeginsWithin language_limits front → KeepsLimits (front ++ t ∷ []) → (i : ℕ) → KeepsLimits (take i (front ++ t ∷ []))
 keeps_one_more front t b k i = elim (at_most_or i (length front)) [
   | inl h ↦ subst KeepsLimits (sym (take-append-le i front (t ∷ []) h)) (KeepsLimits.begins (begins_sooner b i))
   | inr h ↦ subst KeepsLimits (sym (take_all i (front ++ t ∷ []) (omega (arith, h, length-append front (t ∷ []))))) k
@@ -89,21 +89,21 @@ unexpected_keeps ts place u o = elim (at_most_or o.place place) [
   | inr h ↦ begins_no_further ts place o.place u h o.inside o.begins
 ]
 
-pub derived_keeps : (ts : List Token) (q : TreeForm) → DerivesWithin standard ts q → IsOverLimit ts → ⊥
-derived_keeps ts q d o = o.exceeds (KeepsLimits.begins record { rest = drop o.place ts; tree = q; derived = subst (λ us. DerivesWithin standard us q) (sym (take-append-drop o.place ts)) d })
+pub derived_keeps : (ts : List Token) (q : Query) → DerivesWithin language_limits ts q → IsOverLimit ts → ⊥
+derived_keeps ts q d o = o.exceeds (KeepsLimits.begins record { rest = drop o.place ts; tree = q; derived = subst (λ us. DerivesWithin language_limits us q) (sym (take-append-drop o.place ts)) d })
 
 -- ---- where the reader stops
 
-unexpected_at : (ts : List Token) (left : ℕ) → whole_at standard ts ≡ Err (halts.unexpected left) → IsUnexpected ts (length ts - left)
+unexpected_at : (ts : List Token) (left : ℕ) → whole_at language_limits ts ≡ Err (halts.unexpected left) → IsUnexpected ts (length ts - left)
 unexpected_at ts left e = record {
-  inside = omega (arith, left_within standard ts (halts.unexpected left) e);
+  inside = omega (arith, left_within language_limits ts (halts.unexpected left) e);
   begins = begins_unexpected ts left e;
   keeps = keeps_unexpected ts left e;
   continues_none = λ h b. continues_none_at ts left e h b;
   derives_none = λ limits q d. derives_none_at ts left e limits q d;
 }
 
-over_at : (ts : List Token) (left : ℕ) → whole_at standard ts ≡ Err (halts.over_limit left) → IsOverLimit ts
+over_at : (ts : List Token) (left : ℕ) → whole_at language_limits ts ≡ Err (halts.over_limit left) → IsOverLimit ts
 over_at ts left e =
     let o = over_front ts left e in
     let front_is : take (length o.front) ts ≡ o.front = ap (take (length o.front)) o.is ∙ take-append_seam o.front o.back in
@@ -112,40 +112,40 @@ over_at ts left e =
       place = length o.front;
       inside = omega (arith, ap length o.is, length-append o.front o.back);
       begins = subst Begins (sym front_is) o.begins;
-      exceeds = λ k. begins_none_at ts left e (subst (BeginsWithin standard) (take_fewer (length ts - left) (length o.front) ts sooner) (begins_sooner (subst (BeginsWithin standard) (sym front_is) (exceeds o.front o.counts (subst KeepsLimits front_is k))) (length ts - left)));
+      exceeds = λ k. begins_none_at ts left e (subst (BeginsWithin language_limits) (take_fewer (length ts - left) (length o.front) ts sooner) (begins_sooner (subst (BeginsWithin language_limits) (sym front_is) (exceeds o.front o.counts (subst KeepsLimits front_is k))) (length ts - left)));
     }
 
 -- A token, or the end, that is not expected is where reading stops.
-stops_unexpected : {X : Type 0} (view : X → TreeForm) (ts : List Token) (r : Result X GrammarFault) → Gives view r (whole_at standard ts) → (left : ℕ) → r ≡ Err (faults.Unexpected left) → whole_at standard ts ≡ Err (halts.unexpected left)
+stops_unexpected : {X : Type 0} (view : X → Query) (ts : List Token) (r : Result X GrammarFault) → Gives view r (whole_at language_limits ts) → (left : ℕ) → r ≡ Err (faults.Unexpected left) → whole_at language_limits ts ≡ Err (halts.unexpected left)
 stops_unexpected view ts (Ok x) g left e = absurd cc
 stops_unexpected view ts (Err faults.OutOfMemory) g left e = absurd cc
 stops_unexpected view ts (Err faults.OverLimit) g left e = absurd cc
 stops_unexpected view ts (Err (faults.Unexpected n)) g left e = let h : n ≡ left = cc in g ∙ ap (λ (m : ℕ). Err (halts.unexpected m)) h
 
 -- It continues no query.
-pub unexpected : {X : Type 0} (view : X → TreeForm) (ts : List Token) (r : Result X GrammarFault) → Gives view r (whole_at standard ts) → (left : ℕ) → r ≡ Err (faults.Unexpected left) → IsUnexpected ts (length ts - left)
+pub unexpected : {X : Type 0} (view : X → Query) (ts : List Token) (r : Result X GrammarFault) → Gives view r (whole_at language_limits ts) → (left : ℕ) → r ≡ Err (faults.Unexpected left) → IsUnexpected ts (length ts - left)
 unexpected view ts r g left e = unexpected_at ts left (stops_unexpected view ts r g left e)
 
 -- It is one of these tokens, or the end.
-pub within : {X : Type 0} (view : X → TreeForm) (ts : List Token) (r : Result X GrammarFault) → Gives view r (whole_at standard ts) → (left : ℕ) → r ≡ Err (faults.Unexpected left) → left ≤ length ts
-within view ts r g left e = left_within standard ts (halts.unexpected left) (stops_unexpected view ts r g left e)
+pub within : {X : Type 0} (view : X → Query) (ts : List Token) (r : Result X GrammarFault) → Gives view r (whole_at language_limits ts) → (left : ℕ) → r ≡ Err (faults.Unexpected left) → left ≤ length ts
+within view ts r g left e = left_within language_limits ts (halts.unexpected left) (stops_unexpected view ts r g left e)
 
 -- Where it is too much, the tokens in front begin a query that does not keep the limits.
-pub over_limit : {X : Type 0} (view : X → TreeForm) (ts : List Token) (r : Result X GrammarFault) → Gives view r (whole_at standard ts) → r ≡ Err faults.OverLimit → IsOverLimit ts
+pub over_limit : {X : Type 0} (view : X → Query) (ts : List Token) (r : Result X GrammarFault) → Gives view r (whole_at language_limits ts) → r ≡ Err faults.OverLimit → IsOverLimit ts
 over_limit view ts (Ok x) g e = absurd cc
 over_limit view ts (Err faults.OutOfMemory) g e = absurd cc
 over_limit view ts (Err faults.OverLimit) g e = over_at ts g.0 g.1
 over_limit view ts (Err (faults.Unexpected n)) g e = absurd cc
 
 -- What is read is derived.
-pub derived : (ts : List Token) (r : Result (Box Tree Global) GrammarFault) → Gives (λ t. tree_form t.value) r (whole_at standard ts) → IfOk r (λ t. DerivesWithin standard ts (tree_form t.value))
+pub derived : (ts : List Token) (r : Result (Box Tree Global) GrammarFault) → Gives (λ t. tree_form t.value) r (whole_at language_limits ts) → IfOk r (λ t. DerivesWithin language_limits ts (tree_form t.value))
 derived ts (Ok t) e = read_derives ts (tree_form t.value) e
 derived ts (Err e) h = tt
 
 -- Tokens derive a query, or go wrong somewhere, or are of too much.
-pub decided : (ts : List Token) → ((q : TreeForm) × DerivesWithin standard ts q) ⊎ (((place : ℕ) × IsUnexpected ts place) ⊎ IsOverLimit ts)
-decided ts = of_read (whole_at standard ts) refl where
-  of_read : (o : Result TreeForm Stop) → whole_at standard ts ≡ o → ((q : TreeForm) × DerivesWithin standard ts q) ⊎ (((place : ℕ) × IsUnexpected ts place) ⊎ IsOverLimit ts)
+pub decided : (ts : List Token) → ((q : Query) × DerivesWithin language_limits ts q) ⊎ (((place : ℕ) × IsUnexpected ts place) ⊎ IsOverLimit ts)
+decided ts = of_read (whole_at language_limits ts) refl where
+  of_read : (o : Result Query Stop) → whole_at language_limits ts ≡ o → ((q : Query) × DerivesWithin language_limits ts q) ⊎ (((place : ℕ) × IsUnexpected ts place) ⊎ IsOverLimit ts)
   of_read (Ok q) e = inl (q, read_derives ts q e)
   of_read (Err (halts.over_limit left)) e = inr (inr (over_at ts left e))
   of_read (Err (halts.unexpected left)) e = inr (inl (length ts - left, unexpected_at ts left e))

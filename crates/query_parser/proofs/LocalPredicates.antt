@@ -5,7 +5,7 @@ use Rattle.semantics.specs.declared.token.Token.TheVariants as tokens
 use Rattle.semantics.specs.declared.token.Word.TheVariants as w
 use Rattle.semantics.specs.declared.token.Sign.TheVariants as s
 use Rattle.query_lexer.specs.Options.{choose}
-use Rattle.semantics.specs.Syntax.{ExpressionForm, OperandForm, PredicateForm, over_all, over_filtered, truth_test, compare, between, member, null_test, column, not_of}
+use Rattle.semantics.specs.Syntax.{Expression, Operand, Predicate, over_all, over_filtered, truth_test, compare, between, member, null_test, column, not_of}
 use Rattle.semantics.specs.Productions.{conjunction_of, disjunction_of}
 use Rattle.semantics.specs.Leaves.{Limits}
 use Rattle.values.specs.Results.{◌>>=◌}
@@ -43,34 +43,34 @@ local_mark g lg = local_as (λ ts. g (mark_at ts).0 (mark_at ts).1) (λ ts. choo
 
 -- ---- atoms
 
-member_l : (most : ℕ) (x : OperandForm) (n : Bool) → Local true (member_after most x n)
+member_l : (most : ℕ) (x : Operand) (n : Bool) → Local true (member_after most x n)
 unfolding member_after
 member_l most x n = local_made (literals_at most) (λ ls. member x n ls) (literals_l most)
 
-column_l : (x : OperandForm) → Local true (λ ts. column_of x ts >>= λ p. Ok (p, ts))
+column_l : (x : Operand) → Local true (λ ts. column_of x ts >>= λ p. Ok (p, ts))
 unfolding column_of
-column_l (OperandForm.expression (ExpressionForm.name n)) = local_ok (column n)
-column_l (OperandForm.expression (ExpressionForm.grouping ns)) = local_stuck
-column_l (OperandForm.expression (ExpressionForm.function f)) = local_stuck
-column_l (OperandForm.literal a) = local_stuck
+column_l (Operand.expression (Expression.name n)) = local_ok (column n)
+column_l (Operand.expression (Expression.grouping ns)) = local_stuck
+column_l (Operand.expression (Expression.function f)) = local_stuck
+column_l (Operand.literal a) = local_stuck
 
 -- A truth value behind a predicate and its mark.
-truth_of : (p : PredicateForm) (n : Bool) → Local true (λ ts. truth_at ts >>= λ t. Ok (truth_test p n t.0, t.1))
+truth_of : (p : Predicate) (n : Bool) → Local true (λ ts. truth_at ts >>= λ t. Ok (truth_test p n t.0, t.1))
 truth_of p n = local_made truth_at (λ t. truth_test p n t) truth_l
 
-test_after_l : (p : PredicateForm) → Local true (test_after p)
+test_after_l : (p : Predicate) → Local true (test_after p)
 unfolding test_after
 test_after_l p = local_choose (is_word w.Is) (λ ts. Ok (p, ts)) (λ a. truth_at (mark_at a).1 >>= λ t. Ok (truth_test p (mark_at a).0 t.0, t.1)) (local_ok p)
     (local_mark (λ n us. truth_at us >>= λ t. Ok (truth_test p n t.0, t.1)) (truth_of p))
 
-column_truth_l : (x : OperandForm) (n : Bool) → Local true (λ ts. column_of x ts >>= λ p. truth_at ts >>= λ t. Ok (truth_test p n t.0, t.1))
+column_truth_l : (x : Operand) (n : Bool) → Local true (λ ts. column_of x ts >>= λ p. truth_at ts >>= λ t. Ok (truth_test p n t.0, t.1))
 unfolding column_of
-column_truth_l (OperandForm.expression (ExpressionForm.name c)) n = truth_of (column c) n
-column_truth_l (OperandForm.expression (ExpressionForm.grouping ns)) n = local_stuck
-column_truth_l (OperandForm.expression (ExpressionForm.function f)) n = local_stuck
-column_truth_l (OperandForm.literal a) n = local_stuck
+column_truth_l (Operand.expression (Expression.name c)) n = truth_of (column c) n
+column_truth_l (Operand.expression (Expression.grouping ns)) n = local_stuck
+column_truth_l (Operand.expression (Expression.function f)) n = local_stuck
+column_truth_l (Operand.literal a) n = local_stuck
 
-is_l : (x : OperandForm) → Local true (is_after x)
+is_l : (x : Operand) → Local true (is_after x)
 unfolding is_after
 is_l x = local_mark (λ n us. choose (after (is_word w.Null) us) (column_of x us >>= λ p. truth_at us >>= λ t. Ok (truth_test p n t.0, t.1)) (λ a. test_after (null_test x n) a))
     (λ n. local_choose (is_word w.Null) (λ us. column_of x us >>= λ p. truth_at us >>= λ t. Ok (truth_test p n t.0, t.1)) (test_after (null_test x n)) (column_truth_l x n) (test_after_l (null_test x n)))
@@ -95,30 +95,30 @@ module _ (inside : Inside) (inside_l : Local false inside.read) where
 
   pub expression_l : Local true (expression_at inside)
   unfolding expression_at
-  expression_l = local_front name_at (λ ts. choose (after (is_word w.Grouping) ts) (function_at inside ts >>= λ f. Ok (ExpressionForm.function f.0, f.1)) (λ a. arguments_at inside.limits.arguments a >>= λ ns. Ok (ExpressionForm.grouping ns.0, ns.1)))
-      (λ n us. Ok (ExpressionForm.name n, us)) name_front
-      (local_choose (is_word w.Grouping) (λ ts. function_at inside ts >>= λ f. Ok (ExpressionForm.function f.0, f.1)) (λ a. arguments_at inside.limits.arguments a >>= λ ns. Ok (ExpressionForm.grouping ns.0, ns.1))
-      (local_made (function_at inside) (λ f. ExpressionForm.function f) function_l) (local_made (arguments_at inside.limits.arguments) (λ ns. ExpressionForm.grouping ns) (arguments_l inside.limits.arguments)))
-      (λ n. local_ok (ExpressionForm.name n))
+  expression_l = local_front name_at (λ ts. choose (after (is_word w.Grouping) ts) (function_at inside ts >>= λ f. Ok (Expression.function f.0, f.1)) (λ a. arguments_at inside.limits.arguments a >>= λ ns. Ok (Expression.grouping ns.0, ns.1)))
+      (λ n us. Ok (Expression.name n, us)) name_front
+      (local_choose (is_word w.Grouping) (λ ts. function_at inside ts >>= λ f. Ok (Expression.function f.0, f.1)) (λ a. arguments_at inside.limits.arguments a >>= λ ns. Ok (Expression.grouping ns.0, ns.1))
+      (local_made (function_at inside) (λ f. Expression.function f) function_l) (local_made (arguments_at inside.limits.arguments) (λ ns. Expression.grouping ns) (arguments_l inside.limits.arguments)))
+      (λ n. local_ok (Expression.name n))
 
   operand_l : Local true (operand_at inside)
   unfolding operand_at
-  operand_l = local_front literal_at (λ ts. expression_at inside ts >>= λ e. Ok (OperandForm.expression e.0, e.1)) (λ a us. Ok (OperandForm.literal a, us)) literal_front
-      (local_made (expression_at inside) (λ e. OperandForm.expression e) expression_l) (λ a. local_ok (OperandForm.literal a))
+  operand_l = local_front literal_at (λ ts. expression_at inside ts >>= λ e. Ok (Operand.expression e.0, e.1)) (λ a us. Ok (Operand.literal a, us)) literal_front
+      (local_made (expression_at inside) (λ e. Operand.expression e) expression_l) (λ a. local_ok (Operand.literal a))
 
   -- ---- atoms
 
-  between_l : (x : OperandForm) (n : Bool) → Local true (between_after inside x n)
+  between_l : (x : Operand) (n : Bool) → Local true (between_after inside x n)
   unfolding between_after
   between_l x n = local_bind (operand_at inside) (λ y us. found_or_unexpected (after (is_word w.And)) us >>= λ a. operand_at inside a >>= λ z. Ok (between x n y z.0, z.1)) operand_l
       (λ y. local_found_or_stuck (is_word w.And) (λ a. operand_at inside a >>= λ z. Ok (between x n y z.0, z.1)) (local_made (operand_at inside) (λ z. between x n y z) operand_l))
 
-  negated_l : (x : OperandForm) → Local true (negated_after inside x)
+  negated_l : (x : Operand) → Local true (negated_after inside x)
   unfolding negated_after
   negated_l x = local_choose (is_word w.In) (λ ts. found_or_unexpected (after (is_word w.Between)) ts >>= λ a. between_after inside x true a) (λ a. member_after inside.limits.literals x true a)
       (local_found_or_stuck (is_word w.Between) (λ a. between_after inside x true a) (between_l x true)) (member_l inside.limits.literals x true)
 
-  atom_l : (x : OperandForm) → Local true (atom_after inside x)
+  atom_l : (x : Operand) → Local true (atom_after inside x)
   unfolding atom_after
   atom_l x = local_front op_at
       (λ ts. choose (after (is_word w.Not) ts) (choose (after (is_word w.In) ts) (choose (after (is_word w.Between) ts) (column_of x ts >>= λ p. Ok (p, ts)) (λ a. between_after inside x false a)) (λ a. member_after inside.limits.literals x false a)) (λ a. negated_after inside x a))

@@ -8,7 +8,7 @@ use Rattle.semantics.specs.declared.token.Word.{Word}
 use Rattle.semantics.specs.declared.token.Word.TheVariants as w
 use Rattle.semantics.specs.declared.token.Sign.TheVariants as s
 use Rattle.query_lexer.specs.Options.{choose}
-use Rattle.semantics.specs.Syntax.{ExpressionForm, PredicateForm, ElementForm, ItemForm, KeyForm, TreeForm, set, rollup, cube, sets, element_forms}
+use Rattle.semantics.specs.Syntax.{Expression, Predicate, GroupingElement, SelectItem, SortKey, Query, set, rollup, cube, sets, element_forms}
 use Rattle.query_parser.specs.Inside.Stops.{Stop}
 use Rattle.query_parser.specs.Inside.Stops as halts
 use Rattle.query_parser.specs.Inside.Fronts.{is_word, is_sign, after}
@@ -20,7 +20,7 @@ use Rattle.query_parser.specs.Inside.KeySteps.{direction_at, null_ordering_at, k
 use Rattle.query_parser.specs.Inside.QuerySteps.{alias_at, item_at, items_at, from_at, clause_at, set_quantifier_at, elements_at, groups_at, select_at, records_at, rows_at, query_at, at_end, whole_at}
 use Rattle.query_parser.proofs.Local.{SameFront, IsFront, Local, Shares, left_of, local_loose, local_as, local_end, local_head, local_ok, local_stuck, local_over, local_choose, local_front, local_bind, local_found_or_stuck, local_found_or_stuck_front, local_all}
 use Rattle.query_parser.proofs.LocalLeaves.{TellsByFront, local_listed, local_closed, name_front, name_told}
-use Rattle.semantics.specs.Leaves.{Limits, standard}
+use Rattle.semantics.specs.Leaves.{Limits, language_limits}
 use Rattle.semantics.specs.Grammar.{DerivesWithin}
 use Rattle.semantics.specs.Prefixes.{BeginsWithin, Begins}
 use Rattle.values.specs.Results.{◌>>=◌}
@@ -78,7 +78,7 @@ set_opened (t ∷ ts) = refl
 set_l : Local true set_at
 set_l = local_as set_at opened_at set_opened opened_l
 
-element_l : (nested : Reader ElementForm) → Local false nested → Local true (element_at nested)
+element_l : (nested : Reader GroupingElement) → Local false nested → Local true (element_at nested)
 unfolding element_at
 element_l nested ln =
     local_choose (is_word w.Rollup) (λ ts. choose (after (is_word w.Cube) ts) (choose (after (is_word w.Grouping) ts) (set_at ts >>= λ ns. Ok (set ns.0, ns.1)) (λ a. nested a)) (λ a. units_at a >>= λ us. Ok (cube us.0, us.1))) (λ a. units_at a >>= λ us. Ok (rollup us.0, us.1))
@@ -171,7 +171,7 @@ elements_l : (limits : Limits) → Local true (elements_at limits)
 unfolding elements_at
 elements_l limits = local_as (elements_at limits) (λ ts. choose (after (is_word w.Distinct) ts) (listed false ts) (λ a. listed true a)) (quantifier_way listed)
     (local_choose (is_word w.Distinct) (listed false) (listed true) (listed_l false) (listed_l true)) where
-      listed : Bool → Reader (Bool × List ElementForm)
+      listed : Bool → Reader (Bool × List GroupingElement)
       listed d us = all_at any_front (group_at limits.sets) us >>= λ gs. Ok ((d, gs.0), gs.1)
 
       listed_l : (d : Bool) → Local true (listed d)
@@ -210,10 +210,10 @@ unfolding key_at
 key_l limits = local_bind (expression_at (inside_of limits limits.levels)) (λ e us. behind e (direction_at us).0 (direction_at us).1) (expression_l (inside_of limits limits.levels) (predicate_l limits limits.levels))
     (λ e. local_as (λ us. behind e (direction_at us).0 (direction_at us).1) (λ ts. choose (after (is_word w.Desc) ts) (choose (after (is_word w.Asc) ts) (behind e false ts) (λ a. behind e false a)) (λ a. behind e true a)) (direction_way (behind e))
     (local_choose (is_word w.Desc) (λ ts. choose (after (is_word w.Asc) ts) (behind e false ts) (λ a. behind e false a)) (behind e true) (local_choose (is_word w.Asc) (behind e false) (behind e false) (behind_l e false) (behind_l e false)) (behind_l e true))) where
-      behind : ExpressionForm → Bool → Reader KeyForm
+      behind : Expression → Bool → Reader SortKey
       behind e d us = null_ordering_at d us >>= λ n. Ok (record { expression = e; descending = d; nulls_first = n.0 }, n.1)
 
-      behind_l : (e : ExpressionForm) (d : Bool) → Local true (behind e d)
+      behind_l : (e : Expression) (d : Bool) → Local true (behind e d)
       behind_l e d = local_made (null_ordering_at d) (λ n. record { expression = e; descending = d; nulls_first = n }) (null_ordering_l d)
 
 keys_l : (limits : Limits) → Local true (keys_at limits)
@@ -231,20 +231,20 @@ query_l : (limits : Limits) → Local true (query_at limits)
 unfolding query_at
 query_l limits = local_bind (select_at limits) (λ is us. records_at limits us >>= λ a. rows_at limits a.1 >>= λ b. Ok (tree is a.0 b.0, b.1)) (select_l limits)
     (λ is. local_bind (records_at limits) (λ a us. rows_at limits us >>= λ b. Ok (tree is a b.0, b.1)) (records_l limits) (λ a. local_made (rows_at limits) (λ b. tree is a b) (rows_l limits))) where
-      tree : List ItemForm → Option PredicateForm × Bool × List ElementForm → Option PredicateForm × List KeyForm → TreeForm
+      tree : List SelectItem → Option Predicate × Bool × List GroupingElement → Option Predicate × List SortKey → Query
       tree is a b = record { items = is; where_condition = a.0; distinct_sets = a.1; groups = a.2; having_condition = b.0; keys = b.1 }
 
 -- The whole, as a reader that leaves nothing.
-ended_at : TreeForm → Reader TreeForm
+ended_at : Query → Reader Query
 ended_at q [] = Ok (q, [])
 ended_at q (t ∷ ts) = unexpected_at (t ∷ ts)
 
-ended_l : (q : TreeForm) → Local true (ended_at q)
+ended_l : (q : Query) → Local true (ended_at q)
 unfolding ended_at
 ended_l q [] = local_end (ended_at q) (λ us. Ok (q, us)) refl (local_ok q [])
 ended_l q (t ∷ ts) = local_head (ended_at q) unexpected_at t ts (λ us. refl) (local_stuck (t ∷ ts))
 
-pub all_read_at : Limits → Reader TreeForm
+pub all_read_at : Limits → Reader Query
 all_read_at limits ts = query_at limits ts >>= λ x. ended_at x.0 x.1
 
 pub all_read_l : (limits : Limits) → Local true (all_read_at limits)
@@ -256,17 +256,17 @@ pub all_read_stops : (limits : Limits) (ts : List Token) (e : Stop) → whole_at
     → all_read_at limits ts ≡ Err e
 unfolding whole_at all_read_at ended_at
 all_read_stops limits ts e d = of_query (query_at limits ts) d where
-  of_query : (o : Result (TreeForm × List Token) Stop) → (o >>= λ x. at_end x.1 x.0) ≡ Err e
+  of_query : (o : Result (Query × List Token) Stop) → (o >>= λ x. at_end x.1 x.0) ≡ Err e
       → (o >>= λ x. ended_at x.0 x.1) ≡ Err e
   of_query (Err n) h = let k : n ≡ e = cc in cc
   of_query (Ok (q, [])) h = absurd cc
   of_query (Ok (q, t ∷ us)) h = let k : halts.unexpected (length (t ∷ us)) ≡ e = cc in cc
 
-pub all_read_ok : (limits : Limits) (ts : List Token) (q : TreeForm) → whole_at limits ts ≡ Ok q
+pub all_read_ok : (limits : Limits) (ts : List Token) (q : Query) → whole_at limits ts ≡ Ok q
     → all_read_at limits ts ≡ Ok (q, [])
 unfolding whole_at all_read_at ended_at
 all_read_ok limits ts q d = of_query (query_at limits ts) d where
-  of_query : (o : Result (TreeForm × List Token) Stop) → (o >>= λ x. at_end x.1 x.0) ≡ Ok q
+  of_query : (o : Result (Query × List Token) Stop) → (o >>= λ x. at_end x.1 x.0) ≡ Ok q
       → (o >>= λ x. ended_at x.0 x.1) ≡ Ok (q, [])
   of_query (Err n) h = absurd cc
   of_query (Ok (p, [])) h = let k : p ≡ q = cc in cc
@@ -288,7 +288,7 @@ same_to (suc k) (t ∷ ts) rest h = SameFront.token (same_to k ts rest (omega ar
 
 -- Where a token is not expected, no tokens that begin with those up to it are read.
 unread : (limits : Limits) (ts : List Token) (left : ℕ) → whole_at limits ts ≡ Err (halts.unexpected left)
-    → length ts - left < length ts → (rest : List Token) (q : TreeForm)
+    → length ts - left < length ts → (rest : List Token) (q : Query)
     → whole_at limits (take (suc (length ts - left)) ts ++ rest) ≡ Ok q → ⊥
 unread limits ts left e h rest q d =
     let k = length ts - left in
@@ -302,21 +302,21 @@ unread limits ts left e h rest q d =
     absurd cc
 
 -- Where a token is not expected, it continues no query, whatever the limits.
-pub continues_none_at : (ts : List Token) (left : ℕ) → whole_at standard ts ≡ Err (halts.unexpected left)
+pub continues_none_at : (ts : List Token) (left : ℕ) → whole_at language_limits ts ≡ Err (halts.unexpected left)
     → length ts - left < length ts → Begins (take (length ts - left + 1) ts) → ⊥
 continues_none_at ts left e h b =
-    let wide = both standard b.limits in
-    let stopped = agrees_unexpected (whole_agrees (wider_one standard b.limits) ts) left e in
+    let wide = both language_limits b.limits in
+    let stopped = agrees_unexpected (whole_agrees (wider_one language_limits b.limits) ts) left e in
     let derived =
     subst (λ (n : ℕ). DerivesWithin b.limits (take n ts ++ b.within.rest) b.within.tree) (add-one (length ts - left)) b.within.derived in
-    unread wide ts left stopped h b.within.rest b.within.tree (whole_c (wider_other standard b.limits) (take (suc (length ts - left)) ts ++ b.within.rest) b.within.tree derived)
+    unread wide ts left stopped h b.within.rest b.within.tree (whole_c (wider_other language_limits b.limits) (take (suc (length ts - left)) ts ++ b.within.rest) b.within.tree derived)
 
 -- Tokens of which one is not expected, or the end is not, derive no query, whatever the limits.
-pub derives_none_at : (ts : List Token) (left : ℕ) → whole_at standard ts ≡ Err (halts.unexpected left)
-    → (limits : Limits) (q : TreeForm) → DerivesWithin limits ts q → ⊥
+pub derives_none_at : (ts : List Token) (left : ℕ) → whole_at language_limits ts ≡ Err (halts.unexpected left)
+    → (limits : Limits) (q : Query) → DerivesWithin limits ts q → ⊥
 derives_none_at ts left e limits q d =
-    let stopped = agrees_unexpected (whole_agrees (wider_one standard limits) ts) left e in
-    let read = whole_c (wider_other standard limits) ts q d in
+    let stopped = agrees_unexpected (whole_agrees (wider_one language_limits limits) ts) left e in
+    let read = whole_c (wider_other language_limits limits) ts q d in
     absurd cc
 
 -- Two lists of tokens that share the tokens up to a place.
@@ -326,17 +326,17 @@ shares_to (suc k) [] rest h = absurd (omega arith)
 shares_to (suc k) (t ∷ ts) rest h = Shares.token (shares_to k ts rest (omega arith))
 
 -- Where it is too much, the tokens before that begin no query within the limits of the language.
-pub begins_none_at : (ts : List Token) (left : ℕ) → whole_at standard ts ≡ Err (halts.over_limit left)
-    → BeginsWithin standard (take (length ts - left) ts) → ⊥
+pub begins_none_at : (ts : List Token) (left : ℕ) → whole_at language_limits ts ≡ Err (halts.over_limit left)
+    → BeginsWithin language_limits (take (length ts - left) ts) → ⊥
 begins_none_at ts left e b =
     let k = length ts - left in
-    let stopped = all_read_stops standard ts (halts.over_limit left) e in
-    let within : left ≤ length ts = left_within standard ts (halts.over_limit left) e in
+    let stopped = all_read_stops language_limits ts (halts.over_limit left) e in
+    let within : left ≤ length ts = left_within language_limits ts (halts.over_limit left) e in
     let us = take k ts ++ b.rest in
     let behind : left ≡ length (drop k ts) = omega (arith, length-drop k ts) in
     let inside : k ≤ length ts = omega arith in
     let fails =
-    (all_read_l standard ts).over us (drop k ts) b.rest (stopped ∙ ap (λ (n : ℕ). Err (halts.over_limit n)) behind) (shares_to k ts b.rest inside) in
+    (all_read_l language_limits ts).over us (drop k ts) b.rest (stopped ∙ ap (λ (n : ℕ). Err (halts.over_limit n)) behind) (shares_to k ts b.rest inside) in
     let fault_is = fails.is in
-    let read = all_read_ok standard us b.tree (whole_c (wider_same standard) us b.tree b.derived) in
+    let read = all_read_ok language_limits us b.tree (whole_c (wider_same language_limits) us b.tree b.derived) in
     absurd cc

@@ -8,7 +8,8 @@ use Rattle.semantics.specs.declared.token.Word.TheVariants as w
 use Rattle.semantics.specs.declared.token.Sign.TheVariants as s
 use Rattle.query_lexer.specs.Options.{choose}
 use Rattle.semantics.specs.declared.literal.Literal.{Literal}
-use Rattle.semantics.specs.Syntax.{ExpressionForm, OperandForm, PredicateForm, truth_test, compare, between, member, null_test, column}
+use Rattle.semantics.specs.Syntax as syntax
+use Rattle.semantics.specs.Syntax.{truth_test, compare, between, member, null_test, column}
 use Rattle.query_parser.specs.Inside.Fronts.{is_word, after}
 use Rattle.query_parser.specs.Inside.Steps.{Reader, found_or_unexpected}
 use Rattle.query_parser.specs.Inside.LeafSteps.{literal_at, literals_at, op_at, truth_at, mark_at}
@@ -22,68 +23,68 @@ use Rattle.query_parser.proofs.ViableLeaves.{limits_of, viable_word, found_or_st
 use Rattle.query_parser.proofs.ViableExpressions.{InsideViable, a_name, expression_v}
 
 -- A bare name, as an operand.
-abbrev named : List ℕ → OperandForm
-named n = OperandForm.expression (ExpressionForm.name n)
+abbrev named : List ℕ → syntax.Operand
+named n = syntax.Operand.expression (syntax.Expression.name n)
 
 -- An IN may have a literal.
 some_literals : (wide : Bool) → 0 < (limits_of wide).literals
 some_literals true = omega arith
 some_literals false = omega arith
 
-module _ (wide : Bool) (IsInner : Derivation PredicateForm) (inside : Inside) (inside_v : InsideViable wide IsInner inside) where
+module _ (wide : Bool) (IsInner : Derivation syntax.Predicate) (inside : Inside) (inside_v : InsideViable wide IsInner inside) where
   -- An operand within the limits.
-  abbrev Operand : Derivation OperandForm
+  abbrev Operand : Derivation syntax.Operand
   Operand = IsOperand (limits_of wide) IsInner
 
   -- An atom within the limits.
-  abbrev Atom : Derivation PredicateForm
+  abbrev Atom : Derivation syntax.Predicate
   Atom = IsAtom (limits_of wide) IsInner
 
   -- An atom or a predicate in brackets, within the limits.
-  abbrev Primary : Derivation PredicateForm
+  abbrev Primary : Derivation syntax.Predicate
   Primary = IsPrimary (limits_of wide) IsInner
 
   -- A primary and its truth test, or none, within the limits.
-  abbrev Test : Derivation PredicateForm
+  abbrev Test : Derivation syntax.Predicate
   Test = IsTest (limits_of wide) IsInner
 
   -- ---- what derives behind what was read
 
   -- What derives as an atom behind an operand.
-  abbrev AfterOperand : OperandForm → Derivation PredicateForm
+  abbrev AfterOperand : syntax.Operand → Derivation syntax.Predicate
   AfterOperand x us p ws = (vs : List Token) → Operand vs x us → Atom vs p ws
 
   -- What derives as an atom behind an operand, its mark and IN.
-  abbrev AfterIn : OperandForm → Bool → Derivation PredicateForm
+  abbrev AfterIn : syntax.Operand → Bool → Derivation syntax.Predicate
   AfterIn x n us p ws = (vs ms : List Token) → Operand vs x ms → IsOptional w.Not ms n (tokens.Word w.In ∷ us) → Atom vs p ws
 
   -- What derives as an atom behind an operand, its mark and BETWEEN.
-  abbrev AfterBetween : OperandForm → Bool → Derivation PredicateForm
+  abbrev AfterBetween : syntax.Operand → Bool → Derivation syntax.Predicate
   AfterBetween x n us p ws =
       (vs ms : List Token) → Operand vs x ms → IsOptional w.Not ms n (tokens.Word w.Between ∷ us) → Atom vs p ws
 
   -- What derives as an atom behind the lower end of a BETWEEN.
-  abbrev AfterLow : OperandForm → Bool → OperandForm → Derivation PredicateForm
+  abbrev AfterLow : syntax.Operand → Bool → syntax.Operand → Derivation syntax.Predicate
   AfterLow x n y us p ws = (vs : List Token) → Operand vs y us → AfterBetween x n vs p ws
 
   -- What derives as an atom behind an operand and NOT.
-  abbrev AfterNot : OperandForm → Derivation PredicateForm
+  abbrev AfterNot : syntax.Operand → Derivation syntax.Predicate
   AfterNot x us p ws = AfterOperand x (tokens.Word w.Not ∷ us) p ws
 
   -- What derives as a test behind a primary.
-  abbrev pub AfterPrimary : PredicateForm → Derivation PredicateForm
+  abbrev pub AfterPrimary : syntax.Predicate → Derivation syntax.Predicate
   AfterPrimary p us q ws = (vs : List Token) → Primary vs p us → Test vs q ws
 
   -- What derives as a test behind an operand.
-  abbrev TestedOperand : OperandForm → Derivation PredicateForm
+  abbrev TestedOperand : syntax.Operand → Derivation syntax.Predicate
   TestedOperand x us q ws = (vs : List Token) → Operand vs x us → Test vs q ws
 
   -- What derives as a test behind an operand and IS.
-  abbrev AfterIs : OperandForm → Derivation PredicateForm
+  abbrev AfterIs : syntax.Operand → Derivation syntax.Predicate
   AfterIs x us q ws = TestedOperand x (tokens.Word w.Is ∷ us) q ws
 
   -- What derives as a test behind an operand, IS and its mark.
-  abbrev AfterIsMark : OperandForm → Bool → Derivation PredicateForm
+  abbrev AfterIsMark : syntax.Operand → Bool → Derivation syntax.Predicate
   AfterIsMark x n us q ws =
       (ms vs : List Token) → IsOptional w.Not ms n us → Operand vs x (tokens.Word w.Is ∷ ms) → Test vs q ws
 
@@ -98,7 +99,7 @@ module _ (wide : Bool) (IsInner : Derivation PredicateForm) (inside : Inside) (i
   of_name = IsOperand.expression IsExpression.name
 
   -- Behind any operand may stand an equality with a name.
-  compared : (x : OperandForm) → Phrase (AfterOperand x)
+  compared : (x : syntax.Operand) → Phrase (AfterOperand x)
   compared x = record {
     tokens = tokens.Sign s.Equal ∷ tokens.Name a_name ∷ [];
     value = compare x op.Eq (named a_name);
@@ -106,7 +107,7 @@ module _ (wide : Bool) (IsInner : Derivation PredicateForm) (inside : Inside) (i
   }
 
   -- That makes a test.
-  compared_test : (x : OperandForm) → Phrase (TestedOperand x)
+  compared_test : (x : syntax.Operand) → Phrase (TestedOperand x)
   compared_test x = record {
     tokens = tokens.Sign s.Equal ∷ tokens.Name a_name ∷ [];
     value = compare x op.Eq (named a_name);
@@ -114,7 +115,7 @@ module _ (wide : Bool) (IsInner : Derivation PredicateForm) (inside : Inside) (i
   }
 
   -- Behind the AND of a BETWEEN may stand a name.
-  high_end : (x : OperandForm) (n : Bool) (y : OperandForm)
+  high_end : (x : syntax.Operand) (n : Bool) (y : syntax.Operand)
       → Phrase (λ us p ws. AfterLow x n y (tokens.Word w.And ∷ us) p ws)
   high_end x n y = record {
     tokens = tokens.Name a_name ∷ [];
@@ -123,7 +124,7 @@ module _ (wide : Bool) (IsInner : Derivation PredicateForm) (inside : Inside) (i
   }
 
   -- Behind the lower end of a BETWEEN may stand AND and a name.
-  and_high_end : (x : OperandForm) (n : Bool) (y : OperandForm) → Phrase (AfterLow x n y)
+  and_high_end : (x : syntax.Operand) (n : Bool) (y : syntax.Operand) → Phrase (AfterLow x n y)
   and_high_end x n y = record {
     tokens = tokens.Word w.And ∷ tokens.Name a_name ∷ [];
     value = between x n y (named a_name);
@@ -131,7 +132,7 @@ module _ (wide : Bool) (IsInner : Derivation PredicateForm) (inside : Inside) (i
   }
 
   -- Behind an operand, NOT and BETWEEN may stand two names with AND.
-  not_between : (x : OperandForm) → Phrase (λ us p ws. AfterNot x (tokens.Word w.Between ∷ us) p ws)
+  not_between : (x : syntax.Operand) → Phrase (λ us p ws. AfterNot x (tokens.Word w.Between ∷ us) p ws)
   not_between x = record {
     tokens = tokens.Name a_name ∷ tokens.Word w.And ∷ tokens.Name a_name ∷ [];
     value = between x true (named a_name) (named a_name);
@@ -139,7 +140,7 @@ module _ (wide : Bool) (IsInner : Derivation PredicateForm) (inside : Inside) (i
   }
 
   -- Behind IS and its mark may stand NULL.
-  null_tested : (x : OperandForm) (n : Bool) → Phrase (AfterIsMark x n)
+  null_tested : (x : syntax.Operand) (n : Bool) → Phrase (AfterIsMark x n)
   null_tested x n = record {
     tokens = tokens.Word w.Null ∷ [];
     value = null_test x n;
@@ -149,20 +150,20 @@ module _ (wide : Bool) (IsInner : Derivation PredicateForm) (inside : Inside) (i
   -- ---- operands
 
   -- A literal is an operand, with which nothing else is taken.
-  literal_operand : (us vs ws : List Token) (a : Literal) (x : OperandForm) → IsLiteral us a vs
-      → Exactly (OperandForm.literal a) vs x ws → Operand us x ws
+  literal_operand : (us vs ws : List Token) (a : Literal) (x : syntax.Operand) → IsLiteral us a vs
+      → Exactly (syntax.Operand.literal a) vs x ws → Operand us x ws
   literal_operand us vs ws a x i q = subst (λ z. Operand us z ws) q.1
-      (subst (λ zs. Operand us (OperandForm.literal a) zs) q.0 (IsOperand.literal i))
+      (subst (λ zs. Operand us (syntax.Operand.literal a) zs) q.0 (IsOperand.literal i))
 
   -- An operand.
   operand_v : Viable true wide Operand (operand_at inside)
   unfolding operand_at
   operand_v =
-      viable_front {Q = λ a. Exactly (OperandForm.literal a)} literal_at literal_finds literal_operand
-      (λ ts. expression_at inside ts >>= λ e. Ok (OperandForm.expression e.0, e.1))
-      (λ a us. Ok (OperandForm.literal a, us))
-      (viable_made (expression_at inside) (λ e. OperandForm.expression e) (λ us vs e i. IsOperand.expression i)
-      (expression_v wide IsInner inside inside_v)) (λ a. exactly (OperandForm.literal a))
+      viable_front {Q = λ a. Exactly (syntax.Operand.literal a)} literal_at literal_finds literal_operand
+      (λ ts. expression_at inside ts >>= λ e. Ok (syntax.Operand.expression e.0, e.1))
+      (λ a us. Ok (syntax.Operand.literal a, us))
+      (viable_made (expression_at inside) (λ e. syntax.Operand.expression e) (λ us vs e i. IsOperand.expression i)
+      (expression_v wide IsInner inside inside_v)) (λ a. exactly (syntax.Operand.literal a))
 
   -- ---- atoms
 
@@ -172,7 +173,7 @@ module _ (wide : Bool) (IsInner : Derivation PredicateForm) (inside : Inside) (i
       subst (λ l. Viable true wide (Literals wide) (literals_at l.literals)) (sym inside_v.limits_are) (literals_v wide)
 
   -- What is read behind IN.
-  member_v : (x : OperandForm) (n : Bool) → Viable true wide (AfterIn x n) (member_after inside.limits.literals x n)
+  member_v : (x : syntax.Operand) (n : Bool) → Viable true wide (AfterIn x n) (member_after inside.limits.literals x n)
   unfolding member_after
   member_v x n = viable_made (literals_at inside.limits.literals) (λ ls. member x n ls) listed inside_literals_v where
     listed : (us ws : List Token) (ls : List Literal) → Literals wide us ls ws → AfterIn x n us (member x n ls) ws
@@ -180,29 +181,29 @@ module _ (wide : Bool) (IsInner : Derivation PredicateForm) (inside : Inside) (i
         λ vs ms i m. IsAtom.member i m l others.0 (omega (arith, others.1, some_literals wide))
 
   -- What is read behind the AND of a BETWEEN.
-  abbrev high_at : OperandForm → Bool → OperandForm → Reader PredicateForm
+  abbrev high_at : syntax.Operand → Bool → syntax.Operand → Reader syntax.Predicate
   high_at x n y ts = operand_at inside ts >>= λ z. Ok (between x n y z.0, z.1)
 
   -- What is read behind the lower end of a BETWEEN.
-  abbrev and_high_at : OperandForm → Bool → OperandForm → Reader PredicateForm
+  abbrev and_high_at : syntax.Operand → Bool → syntax.Operand → Reader syntax.Predicate
   and_high_at x n y ts = found_or_unexpected (after (is_word w.And)) ts >>= λ a. high_at x n y a
 
   -- That is viable.
-  high_v : (x : OperandForm) (n : Bool) (y : OperandForm) → Viable true wide (AfterLow x n y) (λ ts. and_high_at x n y ts)
+  high_v : (x : syntax.Operand) (n : Bool) (y : syntax.Operand) → Viable true wide (AfterLow x n y) (λ ts. and_high_at x n y ts)
   high_v x n y =
       found_or_stuck_word w.And (λ a. high_at x n y a) (high_end x n y)
       (viable_made (operand_at inside) (λ z. between x n y z)
       (λ us ws z h low l vs ms i m. IsAtom.between i m l h) operand_v)
 
   -- What is read behind BETWEEN.
-  between_v : (x : OperandForm) (n : Bool) → Viable true wide (AfterBetween x n) (between_after inside x n)
+  between_v : (x : syntax.Operand) (n : Bool) → Viable true wide (AfterBetween x n) (between_after inside x n)
   unfolding between_after
   between_v x n =
       viable_bind (AfterLow x n) (operand_at inside) (λ y us. and_high_at x n y us)
       (λ us vs ws y p l q. q us l) (and_high_end x n) operand_v (high_v x n)
 
   -- What is read behind an operand and NOT.
-  negated_v : (x : OperandForm) → Viable true wide (AfterNot x) (negated_after inside x)
+  negated_v : (x : syntax.Operand) → Viable true wide (AfterNot x) (negated_after inside x)
   unfolding negated_after
   negated_v x =
       viable_word w.In (λ ts. found_or_unexpected (after (is_word w.Between)) ts >>= λ a. between_after inside x true a)
@@ -212,47 +213,47 @@ module _ (wide : Bool) (IsInner : Derivation PredicateForm) (inside : Inside) (i
       (viable_as (λ us ws p q vs i. q vs (tokens.Word w.Not ∷ tokens.Word w.In ∷ us) i IsOptional.written) (member_v x true))
 
   -- What is read behind an operand where nothing stands that belongs to its atom.
-  abbrev column_at : OperandForm → Reader PredicateForm
+  abbrev column_at : syntax.Operand → Reader syntax.Predicate
   column_at x ts = column_of x ts >>= λ p. Ok (p, ts)
 
   -- That is viable.
-  column_v : (x : OperandForm) → Viable true wide (AfterOperand x) (column_at x)
+  column_v : (x : syntax.Operand) → Viable true wide (AfterOperand x) (column_at x)
   unfolding column_of
-  column_v (OperandForm.expression (ExpressionForm.name n)) = viable_ok (column n) (λ ts vs i. bare n i)
-  column_v (OperandForm.expression (ExpressionForm.grouping ns)) =
-      viable_stuck (compared (OperandForm.expression (ExpressionForm.grouping ns)))
-  column_v (OperandForm.expression (ExpressionForm.function f)) =
-      viable_stuck (compared (OperandForm.expression (ExpressionForm.function f)))
-  column_v (OperandForm.literal a) =
-      viable_stuck (compared (OperandForm.literal a))
+  column_v (syntax.Operand.expression (syntax.Expression.name n)) = viable_ok (column n) (λ ts vs i. bare n i)
+  column_v (syntax.Operand.expression (syntax.Expression.grouping ns)) =
+      viable_stuck (compared (syntax.Operand.expression (syntax.Expression.grouping ns)))
+  column_v (syntax.Operand.expression (syntax.Expression.function f)) =
+      viable_stuck (compared (syntax.Operand.expression (syntax.Expression.function f)))
+  column_v (syntax.Operand.literal a) =
+      viable_stuck (compared (syntax.Operand.literal a))
 
   -- What is read behind an operand where no IN stands, nor an operator or NOT.
-  abbrev ranged_at : OperandForm → Reader PredicateForm
+  abbrev ranged_at : syntax.Operand → Reader syntax.Predicate
   ranged_at x ts = choose (after (is_word w.Between) ts) (column_at x ts) (λ a. between_after inside x false a)
 
   -- That is viable.
-  ranged_v : (x : OperandForm) → Viable true wide (AfterOperand x) (ranged_at x)
+  ranged_v : (x : syntax.Operand) → Viable true wide (AfterOperand x) (ranged_at x)
   ranged_v x =
       viable_word w.Between (λ ts. column_at x ts) (λ a. between_after inside x false a) (column_v x)
       (viable_as (λ us ws p q vs i. q vs (tokens.Word w.Between ∷ us) i IsOptional.none) (between_v x false))
 
   -- What is read behind an operand where no operator or NOT stands.
-  abbrev plain_at : OperandForm → Reader PredicateForm
+  abbrev plain_at : syntax.Operand → Reader syntax.Predicate
   plain_at x ts =
       choose (after (is_word w.In) ts) (ranged_at x ts) (λ a. member_after inside.limits.literals x false a)
 
   -- That is viable.
-  plain_v : (x : OperandForm) → Viable true wide (AfterOperand x) (plain_at x)
+  plain_v : (x : syntax.Operand) → Viable true wide (AfterOperand x) (plain_at x)
   plain_v x =
       viable_word w.In (λ ts. ranged_at x ts) (λ a. member_after inside.limits.literals x false a) (ranged_v x)
       (viable_as (λ us ws p q vs i. q vs (tokens.Word w.In ∷ us) i IsOptional.none) (member_v x false))
 
   -- What derives as an atom behind an operand and its operator.
-  abbrev AfterOp : OperandForm → Op → Derivation PredicateForm
+  abbrev AfterOp : syntax.Operand → Op → Derivation syntax.Predicate
   AfterOp x o us p ws = (vs : List Token) → IsOp vs o us → AfterOperand x vs p ws
 
   -- What is read behind an operand, unless that is IS.
-  atom_v : (x : OperandForm) → Viable true wide (AfterOperand x) (atom_after inside x)
+  atom_v : (x : syntax.Operand) → Viable true wide (AfterOperand x) (atom_after inside x)
   unfolding atom_after
   atom_v x =
       viable_front {Q = AfterOp x} op_at op_finds (λ us vs ws o p i q. q us i)
@@ -264,20 +265,20 @@ module _ (wide : Bool) (IsInner : Derivation PredicateForm) (inside : Inside) (i
   -- ---- truth tests
 
   -- What derives as a test behind a primary, IS and its mark.
-  abbrev AfterMark : PredicateForm → Bool → Derivation PredicateForm
+  abbrev AfterMark : syntax.Predicate → Bool → Derivation syntax.Predicate
   AfterMark p n us q ws =
       (ms vs : List Token) → IsOptional w.Not ms n us → Primary vs p (tokens.Word w.Is ∷ ms) → Test vs q ws
 
   -- A truth value, and the test that it makes.
-  abbrev truth_test_at : PredicateForm → Bool → Reader PredicateForm
+  abbrev truth_test_at : syntax.Predicate → Bool → Reader syntax.Predicate
   truth_test_at p n ts = truth_at ts >>= λ t. Ok (truth_test p n t.0, t.1)
 
   -- That is viable.
-  truth_test_v : (p : PredicateForm) (n : Bool) → Viable true wide (AfterMark p n) (truth_test_at p n)
+  truth_test_v : (p : syntax.Predicate) (n : Bool) → Viable true wide (AfterMark p n) (truth_test_at p n)
   truth_test_v p n = viable_made truth_at (λ t. truth_test p n t) (λ us ws t h ms vs m i. IsTest.test i m h) truth_v
 
   -- What is read behind a primary.
-  pub test_after_v : (p : PredicateForm) → Viable true wide (AfterPrimary p) (test_after p)
+  pub test_after_v : (p : syntax.Predicate) → Viable true wide (AfterPrimary p) (test_after p)
   unfolding test_after
   test_after_v p =
       viable_word w.Is (λ ts. Ok (p, ts)) (λ a. truth_test_at p (mark_at a).0 (mark_at a).1)
@@ -285,42 +286,42 @@ module _ (wide : Bool) (IsInner : Derivation PredicateForm) (inside : Inside) (i
       (viable_mark (AfterMark p) (λ n us. truth_test_at p n us) (λ us vs ws n q m k zs i. k us zs m i) (truth_test_v p))
 
   -- What is read behind an operand, IS and its mark, where that is not NULL.
-  abbrev column_test_at : OperandForm → Bool → Reader PredicateForm
+  abbrev column_test_at : syntax.Operand → Bool → Reader syntax.Predicate
   column_test_at x n ts = column_of x ts >>= λ p. truth_test_at p n ts
 
   -- That is viable.
-  column_test_v : (x : OperandForm) (n : Bool) → Viable true wide (AfterIsMark x n) (column_test_at x n)
+  column_test_v : (x : syntax.Operand) (n : Bool) → Viable true wide (AfterIsMark x n) (column_test_at x n)
   unfolding column_of
-  column_test_v (OperandForm.expression (ExpressionForm.name k)) n =
+  column_test_v (syntax.Operand.expression (syntax.Expression.name k)) n =
       viable_as (λ us ws q h ms vs m i. h ms vs m (IsPrimary.atom (bare k i))) (truth_test_v (column k) n)
-  column_test_v (OperandForm.expression (ExpressionForm.grouping ns)) n =
-      viable_stuck (null_tested (OperandForm.expression (ExpressionForm.grouping ns)) n)
-  column_test_v (OperandForm.expression (ExpressionForm.function f)) n =
-      viable_stuck (null_tested (OperandForm.expression (ExpressionForm.function f)) n)
-  column_test_v (OperandForm.literal a) n =
-      viable_stuck (null_tested (OperandForm.literal a) n)
+  column_test_v (syntax.Operand.expression (syntax.Expression.grouping ns)) n =
+      viable_stuck (null_tested (syntax.Operand.expression (syntax.Expression.grouping ns)) n)
+  column_test_v (syntax.Operand.expression (syntax.Expression.function f)) n =
+      viable_stuck (null_tested (syntax.Operand.expression (syntax.Expression.function f)) n)
+  column_test_v (syntax.Operand.literal a) n =
+      viable_stuck (null_tested (syntax.Operand.literal a) n)
 
   -- What is read behind an operand, IS and its mark.
-  abbrev null_at : OperandForm → Bool → Reader PredicateForm
+  abbrev null_at : syntax.Operand → Bool → Reader syntax.Predicate
   null_at x n ts = choose (after (is_word w.Null) ts) (column_test_at x n ts) (λ a. test_after (null_test x n) a)
 
   -- That is viable.
-  null_v : (x : OperandForm) (n : Bool) → Viable true wide (AfterIsMark x n) (null_at x n)
+  null_v : (x : syntax.Operand) (n : Bool) → Viable true wide (AfterIsMark x n) (null_at x n)
   null_v x n =
       viable_word w.Null (λ us. column_test_at x n us) (λ a. test_after (null_test x n) a) (column_test_v x n)
       (viable_as (λ us ws q k ms vs m i. k vs (IsPrimary.atom (IsAtom.null_test i m))) (test_after_v (null_test x n)))
 
   -- What is read behind an operand and IS.
-  is_v : (x : OperandForm) → Viable true wide (AfterIs x) (is_after x)
+  is_v : (x : syntax.Operand) → Viable true wide (AfterIs x) (is_after x)
   unfolding is_after
   is_v x = viable_mark (AfterIsMark x) (λ n us. null_at x n us) (λ us vs ws n q m k zs i. k us zs m i) (null_v x)
 
   -- What is read behind an operand, where no IS stands right behind it: the rest of its atom, and its truth test.
-  abbrev tested_at : OperandForm → Reader PredicateForm
+  abbrev tested_at : syntax.Operand → Reader syntax.Predicate
   tested_at x ts = atom_after inside x ts >>= λ p. test_after p.0 p.1
 
   -- That is viable.
-  tested_v : (x : OperandForm) → Viable true wide (TestedOperand x) (tested_at x)
+  tested_v : (x : syntax.Operand) → Viable true wide (TestedOperand x) (tested_at x)
   tested_v x =
       viable_bind AfterPrimary (atom_after inside x) (λ p us. test_after p us)
       (λ us vs ws p q a k zs i. k zs (IsPrimary.atom (a zs i)))

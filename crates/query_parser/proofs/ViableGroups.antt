@@ -6,7 +6,7 @@ use Rattle.semantics.specs.declared.token.Token.TheVariants as tokens
 use Rattle.semantics.specs.declared.token.Word.TheVariants as w
 use Rattle.semantics.specs.declared.token.Sign.TheVariants as s
 use Rattle.query_lexer.specs.Options.{choose}
-use Rattle.semantics.specs.Syntax.{ElementForm, set, rollup, cube, sets, element_forms}
+use Rattle.semantics.specs.Syntax.{GroupingElement, set, rollup, cube, sets, element_forms}
 use Rattle.query_parser.specs.Inside.Fronts.{is_word, is_sign, after}
 use Rattle.query_parser.specs.Inside.Steps.{Reader, found_or_unexpected, more, name_at, begins_name}
 use Rattle.semantics.specs.Leaves.{Derivation, IsRepeated, IsName}
@@ -120,31 +120,31 @@ set_v =
 -- ---- groups
 
 -- What derives an element behind the word GROUPING.
-abbrev Nested : Derivation ElementForm → Derivation ElementForm
+abbrev Nested : Derivation GroupingElement → Derivation GroupingElement
 Nested P ts x rest = P (tokens.Word w.Grouping ∷ ts) x rest
 
 -- A set, as an element.
-abbrev set_element_at : Reader ElementForm
+abbrev set_element_at : Reader GroupingElement
 set_element_at ts = set_at ts >>= λ ns. Ok (set ns.0, ns.1)
 
 -- What stands behind CUBE.
-abbrev cube_at : Reader ElementForm
+abbrev cube_at : Reader GroupingElement
 cube_at ts = units_at ts >>= λ us. Ok (cube us.0, us.1)
 
 -- What stands behind ROLLUP.
-abbrev rollup_at : Reader ElementForm
+abbrev rollup_at : Reader GroupingElement
 rollup_at ts = units_at ts >>= λ us. Ok (rollup us.0, us.1)
 
 -- An element that is GROUPING SETS or a set.
-abbrev sets_or_set_at : Reader ElementForm → Reader ElementForm
+abbrev sets_or_set_at : Reader GroupingElement → Reader GroupingElement
 sets_or_set_at nested ts = choose (after (is_word w.Grouping) ts) (set_element_at ts) (λ a. nested a)
 
 -- An element that is no ROLLUP.
-abbrev no_rollup_at : Reader ElementForm → Reader ElementForm
+abbrev no_rollup_at : Reader GroupingElement → Reader GroupingElement
 no_rollup_at nested ts = choose (after (is_word w.Cube) ts) (sets_or_set_at nested ts) (λ a. cube_at a)
 
 -- An element, where what is nested in it is viable.
-element_v : {wide : Bool} {IsInner : Derivation ElementForm} (nested : Reader ElementForm)
+element_v : {wide : Bool} {IsInner : Derivation GroupingElement} (nested : Reader GroupingElement)
     → Viable false wide (Nested (IsElement IsInner)) nested → Viable true wide (IsElement IsInner) (element_at nested)
 unfolding element_at
 element_v {wide} {IsInner} nested vn =
@@ -173,7 +173,7 @@ group_phrase zero = record { tokens = group_tokens; value = set []; derived = λ
 group_phrase (suc n) = record { tokens = group_tokens; value = set []; derived = λ other. IsElement.set IsSet.none }
 
 -- A group within some levels, where what is nested in it is viable.
-group_of : {wide : Bool} (m : ℕ) (nested : Reader ElementForm) → Viable false wide (Nested (IsGroup m)) nested
+group_of : {wide : Bool} (m : ℕ) (nested : Reader GroupingElement) → Viable false wide (Nested (IsGroup m)) nested
     → Viable true wide (IsGroup m) (element_at nested)
 unfolding IsGroup
 group_of zero nested vn = element_v nested vn
@@ -188,7 +188,7 @@ sets_behind m n vg =
     (λ a. enclosed_at any_front (group_at n) a >>= λ gs. Ok (sets (element_forms gs.0), gs.1)) one
     (viable_made (enclosed_at any_front (group_at n)) (λ gs. sets (element_forms gs)) listed
     (enclosed_v any_front (group_at n) (group_phrase m) vg))) where
-      listed : (us vs : List Token) (gs : List ElementForm) → Enclosed (All (IsGroup m)) us gs vs
+      listed : (us vs : List Token) (gs : List GroupingElement) → Enclosed (All (IsGroup m)) us gs vs
           → Nested (IsGroup (suc m)) (tokens.Word w.Sets ∷ us) (sets (element_forms gs)) vs
       listed _ _ _ (Enclosed.brackets (Listed.parts group others)) = IsElement.sets group others
 

@@ -18,7 +18,7 @@ use Rattle.semantics.specs.declared.literal.Literal.TheVariants as literals
 use Rattle.query_parser.specs.Inside.Fronts.{is_word, is_sign, after}
 use Rattle.query_parser.specs.Inside.Steps.{Reader, unexpected_at, found_or_unexpected, more, listed_at, name_at, begins_name}
 use Rattle.query_parser.specs.Inside.LeafSteps.{closed_name_at, argument_at, counted_name_at, count_at, aggregate_at, arguments_at, literal_at, begins_literal, literals_at, op_at, truth_at, mark_at}
-use Rattle.semantics.specs.Leaves.{Limits, standard, Derivation, IsName, IsAggregate, IsLiteral, IsOp, IsTruthValue, IsRepeated, IsOptional}
+use Rattle.semantics.specs.Leaves.{Limits, language_limits, Derivation, IsName, IsAggregate, IsLiteral, IsOp, IsTruthValue, IsRepeated, IsOptional}
 use Rattle.values.specs.Results.{◌>>=◌}
 use Rattle.query_parser.proofs.Heads.{after_word_is, after_sign_is}
 use Rattle.query_parser.proofs.Viable.{Phrase, Viable, Finds, BeginsPart, TellsPart, AtMost, Listed, Closed, Enclosed, counted, phrase_listed, viable_ok, viable_stuck, viable_as, viable_same, viable_made, viable_choose, viable_found_or_stuck, viable_found_or_stuck_front, viable_more, viable_listed, viable_closed, viable_enclosed}
@@ -26,7 +26,7 @@ use Rattle.query_parser.proofs.Viable.{Phrase, Viable, Finds, BeginsPart, TellsP
 -- The limits within which a reader's fronts go on: those of the language, or ones wider by one, where a fault may be that it
 -- is too much.
 abbrev pub limits_of : Bool → Limits
-limits_of false = standard
+limits_of false = language_limits
 limits_of true = record { items = 65; arguments = 9; literals = 65; levels = 65; sets = 17 }
 
 -- ---- words
@@ -82,7 +82,7 @@ name_v = viable_found_or_stuck_front name_at name_finds name_phrase
 abbrev pub Arguments : Bool → Derivation (List (List ℕ))
 Arguments wide = Enclosed (Listed IsName (AtMost (tokens.Sign s.Comma) IsName ((limits_of wide).arguments - 1)))
 
-pub arguments_v : (wide : Bool) → Viable true wide (Arguments wide) (arguments_at standard.arguments)
+pub arguments_v : (wide : Bool) → Viable true wide (Arguments wide) (arguments_at language_limits.arguments)
 unfolding arguments_at
 arguments_v wide = viable_enclosed (listed_at begins_name (found_or_unexpected name_at) 7) (phrase_listed none name_phrase) (viable_listed (found_or_unexpected name_at) (more (is_sign s.Comma) begins_name (found_or_unexpected name_at) 7) none name_v (names wide)) where
   none : (ts : List Token) → AtMost (tokens.Sign s.Comma) IsName ((limits_of wide).arguments - 1) ts [] ts
@@ -210,7 +210,7 @@ Literals wide = Enclosed (Listed IsLiteral (AtMost (tokens.Sign s.Comma) IsLiter
 abbrev pub literals_phrase : (wide : Bool) → Phrase (Literals wide)
 literals_phrase wide = record { tokens = tokens.Sign s.Open ∷ tokens.Word w.True ∷ tokens.Sign s.Close ∷ []; value = literals.Truth true ∷ []; derived = λ other. Enclosed.brackets (Listed.parts IsLiteral.yes (IsRepeated.none, omega arith)) }
 
-pub literals_v : (wide : Bool) → Viable true wide (Literals wide) (literals_at standard.literals)
+pub literals_v : (wide : Bool) → Viable true wide (Literals wide) (literals_at language_limits.literals)
 unfolding literals_at
 literals_v wide = viable_enclosed (listed_at begins_literal (found_or_unexpected literal_at) 63) (phrase_listed none literal_phrase) (viable_listed (found_or_unexpected literal_at) (more (is_sign s.Comma) begins_literal (found_or_unexpected literal_at) 63) none literal_v (others wide)) where
   none : (ts : List Token) → AtMost (tokens.Sign s.Comma) IsLiteral ((limits_of wide).literals - 1) ts [] ts

@@ -4,13 +4,13 @@ use Rattle.semantics.specs.declared.token.Token.{Token}
 use Rattle.semantics.specs.declared.token.Token.TheVariants as tokens
 use Rattle.semantics.specs.declared.token.Word.TheVariants as w
 use Rattle.semantics.specs.declared.token.Sign.TheVariants as s
-use Rattle.semantics.specs.Syntax.{PredicateForm, not_of, column}
+use Rattle.semantics.specs.Syntax.{Predicate, not_of, column}
 use Rattle.query_parser.specs.Inside.Fronts.{is_word, is_sign, after}
 use Rattle.query_parser.specs.Inside.Steps.{Reader, found_or_unexpected, more}
 use Rattle.query_parser.specs.Inside.AtomSteps.{test_after, tested_atom_at}
 use Rattle.query_parser.specs.Inside.ExpressionSteps.{Inside}
 use Rattle.query_parser.specs.Inside.PredicateSteps.{test_at, negation_at, conjunction_at, disjunction_at, has_level, predicate_at, any_front, inside_of}
-use Rattle.semantics.specs.Leaves.{standard, Derivation, IsRepeated}
+use Rattle.semantics.specs.Leaves.{language_limits, Derivation, IsRepeated}
 use Rattle.semantics.specs.Productions.{IsAtom, IsPrimary, IsTest, IsNegation, IsConjunction, IsDisjunction, IsPredicate, conjunction_of, disjunction_of}
 use Rattle.values.specs.Results.{◌>>=◌}
 use Rattle.query_parser.proofs.Heads.{after_word_is, after_sign_is}
@@ -19,45 +19,45 @@ use Rattle.query_parser.proofs.ViableLeaves.{limits_of, viable_word}
 use Rattle.query_parser.proofs.ViableExpressions.{InsideViable, a_name}
 use Rattle.query_parser.proofs.ViableAtoms.{AfterPrimary, test_after_v, tested_atom_v}
 
-module _ (wide : Bool) (IsInner : Derivation PredicateForm) (inside : Inside) (inside_v : InsideViable wide IsInner inside) where
+module _ (wide : Bool) (IsInner : Derivation Predicate) (inside : Inside) (inside_v : InsideViable wide IsInner inside) where
   -- A test within the limits.
-  abbrev Test : Derivation PredicateForm
+  abbrev Test : Derivation Predicate
   Test = IsTest (limits_of wide) IsInner
 
   -- A test with NOT or without, within the limits.
-  abbrev Negation : Derivation PredicateForm
+  abbrev Negation : Derivation Predicate
   Negation = IsNegation (limits_of wide) IsInner
 
   -- Parts joined by AND, within the limits.
-  abbrev Conjunction : Derivation PredicateForm
+  abbrev Conjunction : Derivation Predicate
   Conjunction = IsConjunction (limits_of wide) IsInner
 
   -- Parts joined by OR, within the limits.
-  abbrev Disjunction : Derivation PredicateForm
+  abbrev Disjunction : Derivation Predicate
   Disjunction = IsDisjunction (limits_of wide) IsInner
 
   -- What derives as a test behind an opening bracket.
-  abbrev AfterOpen : Derivation PredicateForm
+  abbrev AfterOpen : Derivation Predicate
   AfterOpen us p ws = Test (tokens.Sign s.Open ∷ us) p ws
 
   -- What derives as a test behind an opening bracket and the predicate there.
-  abbrev AfterInner : PredicateForm → Derivation PredicateForm
+  abbrev AfterInner : Predicate → Derivation Predicate
   AfterInner p us q ws = (vs : List Token) → IsInner vs p us → AfterOpen vs q ws
 
   -- What derives behind the first part of an AND.
-  abbrev AfterNegation : PredicateForm → Derivation PredicateForm
+  abbrev AfterNegation : Predicate → Derivation Predicate
   AfterNegation p us q ws = (vs : List Token) → Negation vs p us → Conjunction vs q ws
 
   -- What derives behind the first part of an OR.
-  abbrev AfterConjunction : PredicateForm → Derivation PredicateForm
+  abbrev AfterConjunction : Predicate → Derivation Predicate
   AfterConjunction p us q ws = (vs : List Token) → Conjunction vs p us → Disjunction vs q ws
 
   -- What is read behind a predicate in brackets.
-  abbrev closed_at : PredicateForm → Reader PredicateForm
+  abbrev closed_at : Predicate → Reader Predicate
   closed_at p ts = found_or_unexpected (after (is_sign s.Close)) ts >>= λ b. test_after p b
 
   -- That is viable.
-  closed_v : (p : PredicateForm) → Viable true wide (AfterInner p) (closed_at p)
+  closed_v : (p : Predicate) → Viable true wide (AfterInner p) (closed_at p)
   closed_v p =
       viable_found_or_stuck {Q = AfterPrimary wide IsInner inside inside_v p} (is_sign s.Close) (tokens.Sign s.Close)
       (after_sign_is s.Close) (λ i. refl) (λ us ws q k vs i. k (tokens.Sign s.Open ∷ vs) (IsPrimary.brackets i))
@@ -65,7 +65,7 @@ module _ (wide : Bool) (IsInner : Derivation PredicateForm) (inside : Inside) (i
       (test_after_v wide IsInner inside inside_v p)
 
   -- What is read behind an opening bracket.
-  abbrev opened_at : Reader PredicateForm
+  abbrev opened_at : Reader Predicate
   opened_at ts = inside.read ts >>= λ p. closed_at p.0 p.1
 
   -- That is viable, where too much may be said at once.
@@ -73,7 +73,7 @@ module _ (wide : Bool) (IsInner : Derivation PredicateForm) (inside : Inside) (i
   opened_v =
       viable_bind AfterInner inside.read (λ p us. closed_at p us) (λ us vs ws p q i k. k us i) closing inside_v.read
       closed_v where
-        closing : (p : PredicateForm) → Phrase (AfterInner p)
+        closing : (p : Predicate) → Phrase (AfterInner p)
         closing p = record {
           tokens = tokens.Sign s.Close ∷ [];
           value = p;
@@ -97,7 +97,7 @@ module _ (wide : Bool) (IsInner : Derivation PredicateForm) (inside : Inside) (i
       (viable_made (test_at inside) (λ p. not_of p) (λ us ws p i. IsNegation.not i) test_v)
 
   -- The further parts of an AND.
-  abbrev negations_at : Reader (List PredicateForm)
+  abbrev negations_at : Reader (List Predicate)
   negations_at ts = more (is_word w.And) any_front (negation_at inside) (length ts) ts
 
   -- Those are viable.
@@ -115,7 +115,7 @@ module _ (wide : Bool) (IsInner : Derivation PredicateForm) (inside : Inside) (i
       (λ p. viable_made negations_at (λ ps. conjunction_of p ps) (λ us ws ps l vs i. IsConjunction.parts i l) negations_v)
 
   -- The further parts of an OR.
-  abbrev conjunctions_at : Reader (List PredicateForm)
+  abbrev conjunctions_at : Reader (List Predicate)
   conjunctions_at ts = more (is_word w.Or) any_front (conjunction_at inside) (length ts) ts
 
   -- Those are viable.
@@ -141,7 +141,7 @@ level_of true n = suc n
 level_of false n = n
 
 -- A predicate within the limits in which a reader of n goes on.
-abbrev pub IsWithin : Bool → ℕ → Derivation PredicateForm
+abbrev pub IsWithin : Bool → ℕ → Derivation Predicate
 IsWithin wide n = IsPredicate (limits_of wide) (level_of wide n)
 
 -- A bare column is a predicate.
@@ -174,37 +174,37 @@ some_level true (suc n) e = predicate_phrase true (suc n)
 some_level false (suc n) e = predicate_phrase false n
 
 -- A predicate of some level is one whose brackets hold the next.
-next_level : (wide : Bool) (n : ℕ) (ts rest : List Token) (p : PredicateForm)
+next_level : (wide : Bool) (n : ℕ) (ts rest : List Token) (p : Predicate)
     → IsDisjunction (limits_of wide) (IsWithin wide n) ts p rest → IsWithin wide (suc n) ts p rest
 unfolding IsPredicate
 next_level true n ts rest p i = i
 next_level false n ts rest p i = i
 
 -- What may stand in brackets, where its reader is viable.
-inside_with : (wide : Bool) (n : ℕ) → Viable false wide (IsWithin wide n) (predicate_at standard n)
-    → InsideViable wide (IsWithin wide n) (inside_of standard n)
+inside_with : (wide : Bool) (n : ℕ) → Viable false wide (IsWithin wide n) (predicate_at language_limits n)
+    → InsideViable wide (IsWithin wide n) (inside_of language_limits n)
 inside_with wide n v = record { limits_are = refl; read = v; phrase = some_level wide n; wide_phrase = wide_level wide n }
 
 -- Parts joined by OR where a level of brackets is left.
-level_v : (wide : Bool) (n : ℕ) → Viable false wide (IsWithin wide n) (predicate_at standard n)
-    → Viable true wide (IsWithin wide (suc n)) (disjunction_at (inside_of standard n))
+level_v : (wide : Bool) (n : ℕ) → Viable false wide (IsWithin wide n) (predicate_at language_limits n)
+    → Viable true wide (IsWithin wide (suc n)) (disjunction_at (inside_of language_limits n))
 level_v wide n v =
-    viable_as (next_level wide n) (disjunction_v wide (IsWithin wide n) (inside_of standard n) (inside_with wide n v))
+    viable_as (next_level wide n) (disjunction_v wide (IsWithin wide n) (inside_of language_limits n) (inside_with wide n v))
 
 -- A predicate with fewer than n levels of brackets.
 pub predicate_v : (wide : Bool) (n : ℕ)
-    → Viable false wide (IsPredicate (limits_of wide) (level_of wide n)) (predicate_at standard n)
+    → Viable false wide (IsPredicate (limits_of wide) (level_of wide n)) (predicate_at language_limits n)
 unfolding predicate_at
 predicate_v wide zero = viable_over (wide_level wide zero)
 predicate_v wide (suc n) = viable_loose (level_v wide n (predicate_v wide n))
 
 -- What may stand in brackets where there may be fewer than n levels of them.
 pub inside_v : (wide : Bool) (n : ℕ)
-    → InsideViable wide (IsPredicate (limits_of wide) (level_of wide n)) (inside_of standard n)
+    → InsideViable wide (IsPredicate (limits_of wide) (level_of wide n)) (inside_of language_limits n)
 inside_v wide n = inside_with wide n (predicate_v wide n)
 
 -- A predicate for which a level is left: it takes a token before anything is too much.
 pub predicate_strict_v : (wide : Bool) (n : ℕ)
-    → Viable true wide (IsPredicate (limits_of wide) (level_of wide (suc n))) (predicate_at standard (suc n))
+    → Viable true wide (IsPredicate (limits_of wide) (level_of wide (suc n))) (predicate_at language_limits (suc n))
 unfolding predicate_at
 predicate_strict_v wide n = level_v wide n (predicate_v wide n)

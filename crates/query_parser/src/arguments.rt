@@ -3,7 +3,7 @@
 ghost use Rattle.std.specs.Prelude.{◌<◌, ℕ, length, IfOk};
 ghost use Rattle.query_parser.specs.Inside.Steps.{Gives};
 ghost use Rattle.query_parser.specs.Inside.LeafSteps.{arguments_at};
-ghost use Rattle.semantics.specs.Leaves.{standard};
+ghost use Rattle.semantics.specs.Leaves.{language_limits};
 
 use crate::fault::GrammarFault;
 use crate::fronts::{expect_name, expect_sign, name};
@@ -60,7 +60,7 @@ pub(crate) fn grouping_names(
     tokens: &[Token],
 ) -> Result<(Vec<Text>, &[Token]), GrammarFault>
     ensures exact { Gives (λ x. (x.0.items, x.1.now)) result
-        (arguments_at standard.arguments tokens.now) }
+        (arguments_at language_limits.arguments tokens.now) }
     ensures shorter { IfOk result (λ x. length x.1.now < length tokens.now) }
 {
     let rest = expect_sign(tokens, Sign::Open)?;

@@ -4,7 +4,7 @@ ghost use Rattle.std.specs.Prelude.{◌<◌, ◌≤◌, length, IfOk};
 ghost use Rattle.query_ast.specs.Syntax.{operand_form, predicate_form};
 ghost use Rattle.query_parser.specs.Inside.Steps.{Gives};
 ghost use Rattle.query_parser.specs.Inside.AtomSteps.{member_after, column_of, test_after, is_after};
-ghost use Rattle.semantics.specs.Leaves.{standard};
+ghost use Rattle.semantics.specs.Leaves.{language_limits};
 
 use crate::fault::GrammarFault;
 use crate::fronts::{after_word, unexpected_fault};
@@ -24,7 +24,7 @@ pub(crate) fn member(
     tokens: &[Token],
 ) -> Result<(Predicate, &[Token]), GrammarFault>
     ensures exact { Gives (λ x. (predicate_form x.0, x.1.now)) result
-        (member_after standard.literals (operand_form first) not tokens.now) }
+        (member_after language_limits.literals (operand_form first) not tokens.now) }
     ensures shorter { IfOk result (λ x. length x.1.now < length tokens.now) }
 {
     let (first, (literals, rest)) = keep(first, in_list(alloc, tokens))?;

@@ -8,7 +8,7 @@ ghost use Rattle.query_parser.specs.Inside.Steps.{Gives, with_front, more};
 ghost use Rattle.query_parser.specs.Inside.PredicateSteps.{any_front};
 ghost use Rattle.query_parser.specs.Inside.GroupSteps.{sets_at, group_at};
 ghost use Rattle.query_parser.specs.Inside.QuerySteps.{elements_at, groups_at, set_quantifier_at};
-ghost use Rattle.semantics.specs.Leaves.{standard};
+ghost use Rattle.semantics.specs.Leaves.{language_limits};
 
 use crate::fault::GrammarFault;
 use crate::fronts::{after_sign, after_word, expect_sign, expect_word};
@@ -113,7 +113,7 @@ fn elements(
     tokens: &[Token],
 ) -> Result<((bool, Vec<GroupingElement>), &[Token]), GrammarFault>
     ensures exact { Gives (λ x. ((x.0.0, map element_form x.0.1.items), x.1.now)) result
-        (elements_at standard tokens.now) }
+        (elements_at language_limits tokens.now) }
     ensures shorter { IfOk result (λ x. length x.1.now < length tokens.now) }
 {
     let (distinct, rest) = set_quantifier(tokens);
@@ -130,7 +130,7 @@ pub(crate) fn groups(
     tokens: &[Token],
 ) -> Result<((bool, Vec<GroupingElement>), &[Token]), GrammarFault>
     ensures exact { Gives (λ x. ((x.0.0, map element_form x.0.1.items), x.1.now)) result
-        (groups_at standard tokens.now) }
+        (groups_at language_limits tokens.now) }
     ensures shorter { IfOk result (λ x. length x.1.now ≤ length tokens.now) }
 {
     let Some(rest) = after_word(tokens, Word::Group) else {

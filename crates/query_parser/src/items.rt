@@ -4,7 +4,7 @@ ghost use Rattle.std.specs.Prelude.{◌<◌, ◌≤◌, length, map, IfOk};
 ghost use Rattle.query_ast.specs.Syntax.{item_form};
 ghost use Rattle.query_parser.specs.Inside.Steps.{Gives};
 ghost use Rattle.query_parser.specs.Inside.QuerySteps.{alias_at, item_at, items_at};
-ghost use Rattle.semantics.specs.Leaves.{standard};
+ghost use Rattle.semantics.specs.Leaves.{language_limits};
 
 use crate::expressions::begins_expression;
 use crate::fault::GrammarFault;
@@ -35,7 +35,7 @@ fn alias(tokens: &[Token]) -> Result<(Option<Text>, &[Token]), GrammarFault>
 /// An item.
 #[tactic(auto, unfolding(crate::specs::Inside::QuerySteps::item_at))]
 fn item(alloc: Global, tokens: &[Token]) -> Result<(Item, &[Token]), GrammarFault>
-    ensures exact { Gives (λ x. (item_form x.0, x.1.now)) result (item_at standard tokens.now) }
+    ensures exact { Gives (λ x. (item_form x.0, x.1.now)) result (item_at language_limits tokens.now) }
     ensures shorter { IfOk result (λ x. length x.1.now < length tokens.now) }
 {
     let (expression, rest) = expression(alloc, tokens, MAX_LEVELS)?;
@@ -47,19 +47,19 @@ fn item(alloc: Global, tokens: &[Token]) -> Result<(Item, &[Token]), GrammarFaul
 struct SelectItems;
 
 impl Listed for SelectItems {
-    ghost use Rattle.semantics.specs.Syntax.{ItemForm};
+    ghost use Rattle.semantics.specs.Syntax.{SelectItem};
     ghost use Rattle.query_ast.specs.Syntax.{item_form};
     ghost use Rattle.query_parser.specs.Inside.ExpressionSteps.{begins_expression};
-    ghost use Rattle.semantics.specs.Leaves.{standard};
+    ghost use Rattle.semantics.specs.Leaves.{language_limits};
     ghost use Rattle.query_parser.specs.Inside.QuerySteps.{item_at};
 
     type Part = Item;
 
-    ghost Form = { ItemForm };
+    ghost Form = { SelectItem };
 
     ghost form = { item_form };
 
-    ghost reader = { item_at standard };
+    ghost reader = { item_at language_limits };
 
     ghost front = { begins_expression };
 
@@ -76,7 +76,7 @@ impl Listed for SelectItems {
 #[tactic(auto, unfolding(crate::specs::Inside::QuerySteps::items_at))]
 pub(crate) fn items(alloc: Global, tokens: &[Token]) -> Result<(Vec<Item>, &[Token]), GrammarFault>
     ensures exact { Gives (λ x. (map item_form x.0.items, x.1.now)) result
-        (items_at standard tokens.now) }
+        (items_at language_limits tokens.now) }
     ensures shorter { IfOk result (λ x. length x.1.now < length tokens.now) }
 {
     let (first, rest) = item(alloc, tokens)?;

@@ -4,7 +4,7 @@ ghost use Rattle.std.specs.Prelude.{◌≡◌, ◌<◌, ◌≤◌, length, map, 
 ghost use Rattle.query_ast.specs.Syntax.{key_form};
 ghost use Rattle.query_parser.specs.Inside.Steps.{Gives};
 ghost use Rattle.query_parser.specs.Inside.KeySteps.{direction_at, null_ordering_at, key_at, keys_at};
-ghost use Rattle.semantics.specs.Leaves.{standard};
+ghost use Rattle.semantics.specs.Leaves.{language_limits};
 
 use crate::expressions::begins_expression;
 use crate::fault::GrammarFault;
@@ -50,7 +50,7 @@ fn null_ordering(tokens: &[Token], descending: bool) -> Result<(bool, &[Token]),
 /// A key, with its defaults resolved.
 #[tactic(auto, unfolding(crate::specs::Inside::KeySteps::key_at))]
 fn key(alloc: Global, tokens: &[Token]) -> Result<(Key, &[Token]), GrammarFault>
-    ensures exact { Gives (λ x. (key_form x.0, x.1.now)) result (key_at standard tokens.now) }
+    ensures exact { Gives (λ x. (key_form x.0, x.1.now)) result (key_at language_limits tokens.now) }
     ensures shorter { IfOk result (λ x. length x.1.now < length tokens.now) }
 {
     let (expression, rest) = expression(alloc, tokens, MAX_LEVELS)?;
@@ -68,19 +68,19 @@ fn key(alloc: Global, tokens: &[Token]) -> Result<(Key, &[Token]), GrammarFault>
 struct SortKeys;
 
 impl Listed for SortKeys {
-    ghost use Rattle.semantics.specs.Syntax.{KeyForm};
+    ghost use Rattle.semantics.specs.Syntax.{SortKey};
     ghost use Rattle.query_ast.specs.Syntax.{key_form};
     ghost use Rattle.query_parser.specs.Inside.ExpressionSteps.{begins_expression};
-    ghost use Rattle.semantics.specs.Leaves.{standard};
+    ghost use Rattle.semantics.specs.Leaves.{language_limits};
     ghost use Rattle.query_parser.specs.Inside.KeySteps.{key_at};
 
     type Part = Key;
 
-    ghost Form = { KeyForm };
+    ghost Form = { SortKey };
 
     ghost form = { key_form };
 
-    ghost reader = { key_at standard };
+    ghost reader = { key_at language_limits };
 
     ghost front = { begins_expression };
 
@@ -97,7 +97,7 @@ impl Listed for SortKeys {
 #[tactic(auto, unfolding(crate::specs::Inside::KeySteps::keys_at))]
 pub(crate) fn keys(alloc: Global, tokens: &[Token]) -> Result<(Vec<Key>, &[Token]), GrammarFault>
     ensures exact { Gives (λ x. (map key_form x.0.items, x.1.now)) result
-        (keys_at standard tokens.now) }
+        (keys_at language_limits tokens.now) }
     ensures shorter { IfOk result (λ x. length x.1.now ≤ length tokens.now) }
 {
     let Some(rest) = after_word(tokens, Word::Order) else {

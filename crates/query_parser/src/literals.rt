@@ -4,7 +4,7 @@ ghost use Rattle.std.specs.Prelude.{◌<◌, length, IfOk, IfSome};
 ghost use Rattle.query_lexer.specs.Options.{Tells};
 ghost use Rattle.query_parser.specs.Inside.Steps.{Gives};
 ghost use Rattle.query_parser.specs.Inside.LeafSteps.{literal_at, literals_at};
-ghost use Rattle.semantics.specs.Leaves.{standard};
+ghost use Rattle.semantics.specs.Leaves.{language_limits};
 
 use crate::fault::GrammarFault;
 use crate::fronts::{expect_sign, unexpected_fault};
@@ -96,7 +96,7 @@ pub(crate) fn in_list(
     tokens: &[Token],
 ) -> Result<(Vec<Literal>, &[Token]), GrammarFault>
     ensures exact { Gives (λ x. (x.0.items, x.1.now)) result
-        (literals_at standard.literals tokens.now) }
+        (literals_at language_limits.literals tokens.now) }
     ensures shorter { IfOk result (λ x. length x.1.now < length tokens.now) }
 {
     let rest = expect_sign(tokens, Sign::Open)?;

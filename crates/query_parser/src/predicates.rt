@@ -10,7 +10,7 @@ ghost use Rattle.query_parser.specs.Inside.Steps.{Gives, more};
 ghost use Rattle.query_parser.specs.Inside.ExpressionSteps.{filter_at, function_at, expression_at};
 ghost use Rattle.query_parser.specs.Inside.AtomSteps.{operand_at, between_after, negated_after, atom_after, tested_atom_at};
 ghost use Rattle.query_parser.specs.Inside.PredicateSteps.{test_at, negation_at, conjunction_at, predicate_at, any_front, inside_of};
-ghost use Rattle.semantics.specs.Leaves.{standard};
+ghost use Rattle.semantics.specs.Leaves.{language_limits};
 
 use crate::arguments::grouping_names;
 use crate::atoms::{column, member, null_or_truth_test, optional_truth_test};
@@ -65,7 +65,7 @@ fn filter(
     levels: u32,
 ) -> Result<(Predicate, &[Token]), GrammarFault>
     ensures exact { Gives (λ x. (predicate_form x.0, x.1.now)) result
-        (filter_at (inside_of standard levels) tokens.now) }
+        (filter_at (inside_of language_limits levels) tokens.now) }
     ensures shorter { IfOk result (λ x. length x.1.now < length tokens.now) }
 {
     let rest = expect_sign(tokens, Sign::Open)?;
@@ -86,7 +86,7 @@ fn set_function(
     levels: u32,
 ) -> Result<(SetFunction, &[Token]), GrammarFault>
     ensures exact { Gives (λ x. (function_form x.0, x.1.now)) result
-        (function_at (inside_of standard levels) tokens.now) }
+        (function_at (inside_of language_limits levels) tokens.now) }
     ensures shorter { IfOk result (λ x. length x.1.now < length tokens.now) }
 {
     let (aggregate, rest) = aggregate(tokens)?;
@@ -121,7 +121,7 @@ pub(crate) fn expression(
     levels: u32,
 ) -> Result<(Expression, &[Token]), GrammarFault>
     ensures exact { Gives (λ x. (expression_form x.0, x.1.now)) result
-        (expression_at (inside_of standard levels) tokens.now) }
+        (expression_at (inside_of language_limits levels) tokens.now) }
     ensures shorter { IfOk result (λ x. length x.1.now < length tokens.now) }
 {
     if let Some((name, rest)) = name(tokens) {
@@ -145,7 +145,7 @@ fn operand(
     levels: u32,
 ) -> Result<(Operand, &[Token]), GrammarFault>
     ensures exact { Gives (λ x. (operand_form x.0, x.1.now)) result
-        (operand_at (inside_of standard levels) tokens.now) }
+        (operand_at (inside_of language_limits levels) tokens.now) }
     ensures shorter { IfOk result (λ x. length x.1.now < length tokens.now) }
 {
     if let Some((value, rest)) = literal(tokens)? {
@@ -166,7 +166,7 @@ fn between_atom(
     levels: u32,
 ) -> Result<(Predicate, &[Token]), GrammarFault>
     ensures exact { Gives (λ x. (predicate_form x.0, x.1.now)) result
-        (between_after (inside_of standard levels) (operand_form first) not tokens.now) }
+        (between_after (inside_of language_limits levels) (operand_form first) not tokens.now) }
     ensures shorter { IfOk result (λ x. length x.1.now < length tokens.now) }
 {
     let (first, (low, rest)) = keep(first, operand(alloc, tokens, levels))?;
@@ -191,7 +191,7 @@ fn negated_atom(
     levels: u32,
 ) -> Result<(Predicate, &[Token]), GrammarFault>
     ensures exact { Gives (λ x. (predicate_form x.0, x.1.now)) result
-        (negated_after (inside_of standard levels) (operand_form first) tokens.now) }
+        (negated_after (inside_of language_limits levels) (operand_form first) tokens.now) }
     ensures shorter { IfOk result (λ x. length x.1.now < length tokens.now) }
 {
     if let Some(rest) = after_word(tokens, Word::In) {
@@ -211,7 +211,7 @@ fn atom(
     levels: u32,
 ) -> Result<(Predicate, &[Token]), GrammarFault>
     ensures exact { Gives (λ x. (predicate_form x.0, x.1.now)) result
-        (atom_after (inside_of standard levels) (operand_form first) tokens.now) }
+        (atom_after (inside_of language_limits levels) (operand_form first) tokens.now) }
     ensures shorter { IfOk result (λ x. length x.1.now ≤ length tokens.now) }
 {
     if let Some((op, rest)) = operator(tokens) {
@@ -239,7 +239,7 @@ fn tested_atom(
     levels: u32,
 ) -> Result<(Predicate, &[Token]), GrammarFault>
     ensures exact { Gives (λ x. (predicate_form x.0, x.1.now)) result
-        (tested_atom_at (inside_of standard levels) tokens.now) }
+        (tested_atom_at (inside_of language_limits levels) tokens.now) }
     ensures shorter { IfOk result (λ x. length x.1.now < length tokens.now) }
 {
     let (first, rest) = operand(alloc, tokens, levels)?;
@@ -257,7 +257,7 @@ fn tested_atom(
 #[tactic(auto, unfolding(crate::specs::Inside::PredicateSteps::test_at))]
 fn test(alloc: Global, tokens: &[Token], levels: u32) -> Result<(Predicate, &[Token]), GrammarFault>
     ensures exact { Gives (λ x. (predicate_form x.0, x.1.now)) result
-        (test_at (inside_of standard levels) tokens.now) }
+        (test_at (inside_of language_limits levels) tokens.now) }
     ensures shorter { IfOk result (λ x. length x.1.now < length tokens.now) }
 {
     let Some(rest) = after_sign(tokens, Sign::Open) else {
@@ -277,7 +277,7 @@ fn negation(
     levels: u32,
 ) -> Result<(Predicate, &[Token]), GrammarFault>
     ensures exact { Gives (λ x. (predicate_form x.0, x.1.now)) result
-        (negation_at (inside_of standard levels) tokens.now) }
+        (negation_at (inside_of language_limits levels) tokens.now) }
     ensures shorter { IfOk result (λ x. length x.1.now < length tokens.now) }
 {
     let Some(rest) = after_word(tokens, Word::Not) else {
@@ -295,7 +295,7 @@ fn more_negations(
     levels: u32,
 ) -> Result<(Vec<Predicate>, &[Token]), GrammarFault>
     ensures exact { Gives (λ x. (map predicate_form x.0.items, x.1.now)) result (more (is_word And)
-        any_front (negation_at (inside_of standard levels)) (length tokens.now) tokens.now) }
+        any_front (negation_at (inside_of language_limits levels)) (length tokens.now) tokens.now) }
     ensures shorter { IfOk result (λ x. length x.1.now ≤ length tokens.now) }
 {
     let mut parts = Vec::new(alloc);
@@ -317,7 +317,7 @@ fn conjunction(
     levels: u32,
 ) -> Result<(Predicate, &[Token]), GrammarFault>
     ensures exact { Gives (λ x. (predicate_form x.0, x.1.now)) result
-        (conjunction_at (inside_of standard levels) tokens.now) }
+        (conjunction_at (inside_of language_limits levels) tokens.now) }
     ensures shorter { IfOk result (λ x. length x.1.now < length tokens.now) }
 {
     let (first, rest) = negation(alloc, tokens, levels)?;
@@ -333,7 +333,7 @@ fn more_conjunctions(
     levels: u32,
 ) -> Result<(Vec<Predicate>, &[Token]), GrammarFault>
     ensures exact { Gives (λ x. (map predicate_form x.0.items, x.1.now)) result (more (is_word Or)
-        any_front (conjunction_at (inside_of standard levels)) (length tokens.now) tokens.now) }
+        any_front (conjunction_at (inside_of language_limits levels)) (length tokens.now) tokens.now) }
     ensures shorter { IfOk result (λ x. length x.1.now ≤ length tokens.now) }
 {
     let mut parts = Vec::new(alloc);
@@ -365,7 +365,7 @@ pub(crate) fn predicate(
     levels: u32,
 ) -> Result<(Predicate, &[Token]), GrammarFault>
     ensures exact { Gives (λ x. (predicate_form x.0, x.1.now)) result
-        (predicate_at standard levels tokens.now) }
+        (predicate_at language_limits levels tokens.now) }
     ensures shorter { IfOk result (λ x. length x.1.now < length tokens.now) }
 {
     if levels == 0 {

@@ -2,14 +2,14 @@
 
 ghost use Rattle.std.specs.Prelude.{◌≡◌, ◌<◌, ◌≤◌, ◌-◌, ℕ, Err, length, map, IfOk, MatchResult};
 ghost use Rattle.std.specs.Option.{option_map};
-ghost use Rattle.semantics.specs.Syntax.{TreeForm};
+ghost use Rattle.semantics.specs.Syntax.{Query};
 ghost use Rattle.query_ast.specs.Syntax.{tree_form, element_form, item_form, key_form, predicate_form};
 ghost use Rattle.query_parser.specs.declared.fault.GrammarFault.TheVariants.{OutOfMemory, OverLimit, Unexpected};
 ghost use Rattle.semantics.specs.Grammar.{DerivesWithin};
 ghost use Rattle.semantics.specs.Prefixes.{IsUnexpected, IsOverLimit};
 ghost use Rattle.query_parser.specs.Inside.Steps.{Gives};
 ghost use Rattle.query_parser.specs.Inside.QuerySteps.{from_at, clause_at, select_at, records_at, rows_at, query_at, whole_at};
-ghost use Rattle.semantics.specs.Leaves.{standard};
+ghost use Rattle.semantics.specs.Leaves.{language_limits};
 
 use crate::fault::GrammarFault;
 use crate::fronts::{after_word, expect_name, expect_word, unexpected_fault};
@@ -44,7 +44,7 @@ fn clause(
     word: Word,
 ) -> Result<(Option<Predicate>, &[Token]), GrammarFault>
     ensures exact { Gives (λ x. (option_map predicate_form x.0, x.1.now)) result
-        (clause_at standard word tokens.now) }
+        (clause_at language_limits word tokens.now) }
     ensures shorter { IfOk result (λ x. length x.1.now ≤ length tokens.now) }
 {
     let Some(rest) = after_word(tokens, word) else {
@@ -58,7 +58,7 @@ fn clause(
 #[tactic(auto, unfolding(crate::specs::Inside::QuerySteps::select_at))]
 fn select(alloc: Global, tokens: &[Token]) -> Result<(Vec<Item>, &[Token]), GrammarFault>
     ensures exact { Gives (λ x. (map item_form x.0.items, x.1.now)) result
-        (select_at standard tokens.now) }
+        (select_at language_limits tokens.now) }
 {
     let rest = expect_word(tokens, Word::Select)?;
     let (items, rest) = items(alloc, rest)?;
@@ -73,7 +73,7 @@ fn records(
 ) -> Result<((Option<Predicate>, bool, Vec<GroupingElement>), &[Token]), GrammarFault>
     ensures exact { Gives (λ x.
         ((option_map predicate_form x.0.0, x.0.1, map element_form x.0.2.items), x.1.now))
-        result (records_at standard tokens.now) }
+        result (records_at language_limits tokens.now) }
 {
     let (where_condition, rest) = clause(alloc, tokens, Word::Where)?;
     let (where_condition, (group_by, rest)) = keep(where_condition, groups(alloc, rest))?;
@@ -89,7 +89,7 @@ fn rows(
 ) -> Result<((Option<Predicate>, Vec<Key>), &[Token]), GrammarFault>
     ensures exact { Gives (λ x.
         ((option_map predicate_form x.0.0, map key_form x.0.1.items), x.1.now))
-        result (rows_at standard tokens.now) }
+        result (rows_at language_limits tokens.now) }
 {
     let (having_condition, rest) = clause(alloc, tokens, Word::Having)?;
     let (having_condition, (keys, rest)) = keep(having_condition, keys(alloc, rest))?;
@@ -100,7 +100,7 @@ fn rows(
 #[tactic(auto, unfolding(crate::specs::Inside::QuerySteps::query_at))]
 fn query(alloc: Global, tokens: &[Token]) -> Result<(Box<Tree>, &[Token]), GrammarFault>
     ensures exact { Gives (λ x. (tree_form x.0.value, x.1.now)) result
-        (query_at standard tokens.now) }
+        (query_at language_limits tokens.now) }
 {
     let (items, rest) = select(alloc, tokens)?;
     let (items, (records, rest)) = keep(items, records(alloc, rest))?;
@@ -121,7 +121,7 @@ fn query(alloc: Global, tokens: &[Token]) -> Result<(Box<Tree>, &[Token]), Gramm
 /// The query that all of the tokens are.
 #[tactic(auto, unfolding(crate::specs::Inside::QuerySteps::whole_at))]
 fn whole(alloc: Global, tokens: &[Token]) -> Result<Box<Tree>, GrammarFault>
-    ensures { Gives (λ tree. tree_form tree.value) result (whole_at standard tokens.now) }
+    ensures { Gives (λ tree. tree_form tree.value) result (whole_at language_limits tokens.now) }
 {
     let (tree, rest) = query(alloc, tokens)?;
     if !rest.is_empty() {
@@ -145,9 +145,9 @@ fn whole(alloc: Global, tokens: &[Token]) -> Result<Box<Tree>, GrammarFault>
 pub fn read_query(alloc: Global, tokens: &[Token]) -> Result<Box<Tree>, GrammarFault>
     // What is read is derived.
     ensures derived { IfOk result (λ tree.
-        DerivesWithin standard tokens.now (tree_form tree.value)) }
+        DerivesWithin language_limits tokens.now (tree_form tree.value)) }
     // What is derived is read, and no other, unless memory runs out.
-    ensures read { (q : TreeForm) → DerivesWithin standard tokens.now q
+    ensures read { (q : Query) → DerivesWithin language_limits tokens.now q
         → MatchResult result (λ tree. tree_form tree.value ≡ q) (λ fault. fault ≡ OutOfMemory) }
     // A token that is not expected, or the end, continues no query.
     ensures unexpected { (left : ℕ) → result ≡ Err (Unexpected left)

@@ -11,7 +11,7 @@ use Rattle.semantics.specs.declared.truth.Truth.TheVariants.{True}
 use Rattle.semantics.specs.Values.{Datum}
 use Rattle.semantics.specs.Records.{Fits}
 use Rattle.semantics.specs.Columns.{Field}
-use Rattle.semantics.specs.Syntax.{PredicateForm, TreeForm}
+use Rattle.semantics.specs.Syntax.{Predicate, Query}
 use Rattle.query_resolve.specs.declared.function.FilteredFunction.{FilteredFunction}
 use Rattle.query_typecheck.specs.declared.scope.Clause.TheVariants as clause
 use Rattle.query_typecheck.specs.Filters.{LeadBack}
@@ -31,7 +31,7 @@ map_twice g f [] = refl
 map_twice {X} {Y} {Z} g f (x ∷ xs) = ap (λ (zs : List Z). g (f x) ∷ zs) (map_twice g f xs)
 
 -- Conditions of filters are worth what these are.
-pub all_worth : (fields : List Field) (ps : List PredicateForm) (cs : List Condition) (values : List Datum) → AreConditionsOf fields ps cs → map (λ c. condition_truth c values) cs ≡ map (truth (record_value fields values)) ps
+pub all_worth : (fields : List Field) (ps : List Predicate) (cs : List Condition) (values : List Datum) → AreConditionsOf fields ps cs → map (λ c. condition_truth c values) cs ≡ map (truth (record_value fields values)) ps
 all_worth fields [] [] values h = refl
 all_worth fields [] (c ∷ cs) values h = absurd h
 all_worth fields (p ∷ ps) [] values h = absurd h
@@ -44,7 +44,7 @@ both_true : (a b : Bool) → a ≡ true → b ≡ true → (a && b) ≡ true
 both_true a b g h = rw (g, h) refl
 
 -- Conditions of typed filters can be evaluated for each record that fits.
-pub all_safe : (fields : List Field) (ps : List PredicateForm) (cs : List Condition) (values : List Datum) → AreConditionsOf fields ps cs → AllByRecursion (IsTypedPredicate fields [] clause.Where) ps → Fits fields values → list_all (λ safe. safe values) (map is_safe cs) ≡ true
+pub all_safe : (fields : List Field) (ps : List Predicate) (cs : List Condition) (values : List Datum) → AreConditionsOf fields ps cs → AllByRecursion (IsTypedPredicate fields [] clause.Where) ps → Fits fields values → list_all (λ safe. safe values) (map is_safe cs) ≡ true
 all_safe fields [] [] values h typed fits = refl
 all_safe fields [] (c ∷ cs) values h typed fits = absurd h
 all_safe fields (p ∷ ps) [] values h typed fits = absurd h
@@ -52,14 +52,14 @@ all_safe fields (p ∷ ps) (c ∷ cs) values h typed fits =
     both_true (is_safe c values) (list_all (λ safe. safe values) (map is_safe cs)) (h.0.safe [] typed.0 values fits) (all_safe fields ps cs values h.1 typed.1 fits)
 
 -- Marks by conditions are marks by filters.
-pub marks_are : (fields : List Field) (values : List Datum) (ps : List PredicateForm) (cs : List Condition) → map (λ c. condition_truth c values) cs ≡ map (truth (record_value fields values)) ps → map (λ c. same_truth (condition_truth c values) True) cs ≡ map (λ p. passes fields p values) ps
+pub marks_are : (fields : List Field) (values : List Datum) (ps : List Predicate) (cs : List Condition) → map (λ c. condition_truth c values) cs ≡ map (truth (record_value fields values)) ps → map (λ c. same_truth (condition_truth c values) True) cs ≡ map (λ p. passes fields p values) ps
 marks_are fields values ps cs h =
     sym (map_twice (λ t. same_truth t True) (λ (c : Condition). condition_truth c values) cs)
     ∙ ap (map (λ t. same_truth t True)) h
     ∙ map_twice (λ t. same_truth t True) (truth (record_value fields values)) ps
 
 -- The index of a filter that was found is below their number.
-index_within : (filters : List PredicateForm) (o : Option PredicateForm) (i : ℕ) → option_and_then (λ p. position (same_predicate p) filters) o ≡ Some i → i < length filters
+index_within : (filters : List Predicate) (o : Option Predicate) (i : ℕ) → option_and_then (λ p. position (same_predicate p) filters) o ≡ Some i → i < length filters
 index_within filters None i h = absurd cc
 index_within filters (Some p) i h = (position-Some (same_predicate p) filters i p h).0
 
@@ -85,18 +85,18 @@ there (x ∷ xs) zero below = (x, refl)
 there (x ∷ xs) (suc i) below = there xs i (omega (arith, below))
 
 -- The filter of the set function at a place, by the index that it has there.
-pub filter_read : (fields : List Field) (t : TreeForm) (place : ℕ) (x : FilteredFunction) → slice_get (indexed_functions fields t) place ≡ Some x → LeadBack fields t → option_and_then (slice_get (filters_of fields t)) x.filter ≡ filter_at fields t place
+pub filter_read : (fields : List Field) (t : Query) (place : ℕ) (x : FilteredFunction) → slice_get (indexed_functions fields t) place ≡ Some x → LeadBack fields t → option_and_then (slice_get (filters_of fields t)) x.filter ≡ filter_at fields t place
 filter_read fields t place x here back =
     let filters = filters_of fields t in
     let fs = functions_of fields t in
-    let h : FilteredFunction → Option PredicateForm = λ f. option_and_then (slice_get filters) f.filter in
+    let h : FilteredFunction → Option Predicate = λ f. option_and_then (slice_get filters) f.filter in
     let left : slice_get (map h (indexed_functions fields t)) place ≡ Some (h x) = at_map h (indexed_functions fields t) place ∙ ap (option_map h) here in
     let right : slice_get (map (λ (f : PlannedFunction). f.filter) fs) place ≡ option_map (λ (f : PlannedFunction). f.filter) (slice_get fs place) = at_map (λ (f : PlannedFunction). f.filter) fs place in
-    ap (λ (o : Option (Option PredicateForm)). option_and_then (λ q. q) o) (sym left ∙ ap (λ os. slice_get os place) back ∙ right)
-    ∙ then_map (λ (q : Option PredicateForm). q) (λ (f : PlannedFunction). f.filter) (slice_get fs place)
+    ap (λ (o : Option (Option Predicate)). option_and_then (λ q. q) o) (sym left ∙ ap (λ os. slice_get os place) back ∙ right)
+    ∙ then_map (λ (q : Option Predicate). q) (λ (f : PlannedFunction). f.filter) (slice_get fs place)
 
 -- The set function at a place has an index that is below the number of filters.
-pub index_below : (fields : List Field) (t : TreeForm) (place index : ℕ) (x : FilteredFunction) → place < length (functions_of fields t) → slice_get (indexed_functions fields t) place ≡ Some x → x.filter ≡ Some index → index < length (filters_of fields t)
+pub index_below : (fields : List Field) (t : Query) (place index : ℕ) (x : FilteredFunction) → place < length (functions_of fields t) → slice_get (indexed_functions fields t) place ≡ Some x → x.filter ≡ Some index → index < length (filters_of fields t)
 index_below fields t place index x below here has =
     let fs = functions_of fields t in
     let g = there fs place below in
@@ -105,33 +105,33 @@ index_below fields t place index x below here has =
     index_within (filters_of fields t) g.0.filter index (ap (λ (f : FilteredFunction). f.filter) (sym same) ∙ has)
 
 -- What a filter is worth that is read from a list.
-pub worth_read : (fields : List Field) (values : List Datum) (ps : List PredicateForm) (index : ℕ) (o : Option PredicateForm) (t : Truth) → slice_get ps index ≡ o → Some t ≡ slice_get (map (truth (record_value fields values)) ps) index → t ≡ where_truth fields o values
+pub worth_read : (fields : List Field) (values : List Datum) (ps : List Predicate) (index : ℕ) (o : Option Predicate) (t : Truth) → slice_get ps index ≡ o → Some t ≡ slice_get (map (truth (record_value fields values)) ps) index → t ≡ where_truth fields o values
 worth_read fields values ps index o t here worth =
     some_worth fields values o t (worth ∙ at_map (truth (record_value fields values)) ps index ∙ ap (option_map (truth (record_value fields values))) here)
   where
-    some_worth : (fields : List Field) (values : List Datum) (o : Option PredicateForm) (t : Truth) → Some t ≡ option_map (truth (record_value fields values)) o → t ≡ where_truth fields o values
+    some_worth : (fields : List Field) (values : List Datum) (o : Option Predicate) (t : Truth) → Some t ≡ option_map (truth (record_value fields values)) o → t ≡ where_truth fields o values
     some_worth fields values None t h = absurd cc
     some_worth fields values (Some p) t h = cc
 
 -- A place of a set function is below their number, with indexes too.
-pub place_within : (fields : List Field) (t : TreeForm) (place : ℕ) (xs : List FilteredFunction) → xs ≡ indexed_functions fields t → place < length (functions_of fields t) → place < length xs
+pub place_within : (fields : List Field) (t : Query) (place : ℕ) (xs : List FilteredFunction) → xs ≡ indexed_functions fields t → place < length (functions_of fields t) → place < length xs
 place_within fields t place xs same below =
     let n = length-map (functions_of fields t) (indexed_function (filters_of fields t)) in
     let m = ap length same in
     omega (arith, n, m, below)
 
 -- The set function at a place is there.
-pub read_at : (fields : List Field) (t : TreeForm) (place : ℕ) (xs : List FilteredFunction) (d : FilteredFunction) → xs ≡ indexed_functions fields t → place < length (functions_of fields t) → slice_get (indexed_functions fields t) place ≡ Some (get_or xs place d)
+pub read_at : (fields : List Field) (t : Query) (place : ℕ) (xs : List FilteredFunction) (d : FilteredFunction) → xs ≡ indexed_functions fields t → place < length (functions_of fields t) → slice_get (indexed_functions fields t) place ≡ Some (get_or xs place d)
 read_at fields t place xs d same below =
     ap (λ (ys : List FilteredFunction). slice_get ys place) (sym same) ∙ slice_get-get_or xs place d (place_within fields t place xs same below)
 
 -- Without an index there is no filter, and all records pass.
-pub no_filter : (fields : List Field) (t : TreeForm) (place : ℕ) (x : FilteredFunction) (values : List Datum) → slice_get (indexed_functions fields t) place ≡ Some x → LeadBack fields t → x.filter ≡ None → True ≡ where_truth fields (filter_at fields t place) values
+pub no_filter : (fields : List Field) (t : Query) (place : ℕ) (x : FilteredFunction) (values : List Datum) → slice_get (indexed_functions fields t) place ≡ Some x → LeadBack fields t → x.filter ≡ None → True ≡ where_truth fields (filter_at fields t place) values
 no_filter fields t place x values here back has =
-    ap (λ (o : Option PredicateForm). where_truth fields o values) (ap (option_and_then (slice_get (filters_of fields t))) (sym has) ∙ filter_read fields t place x here back)
+    ap (λ (o : Option Predicate). where_truth fields o values) (ap (option_and_then (slice_get (filters_of fields t))) (sym has) ∙ filter_read fields t place x here back)
 
 -- As many conditions as filters.
-pub as_many : (fields : List Field) (ps : List PredicateForm) (cs : List Condition) → map (λ c. condition_truth c []) cs ≡ map (truth (record_value fields [])) ps → length ps ≡ length cs
+pub as_many : (fields : List Field) (ps : List Predicate) (cs : List Condition) → map (λ c. condition_truth c []) cs ≡ map (truth (record_value fields [])) ps → length ps ≡ length cs
 as_many fields ps cs h =
     let n = length-map cs (λ (c : Condition). condition_truth c []) in
     let m = length-map ps (truth (record_value fields [])) in

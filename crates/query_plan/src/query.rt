@@ -19,11 +19,11 @@ pub struct Query {
 }
 
 impl Model for Query {
-    ghost use Rattle.semantics.specs.Syntax.{TreeForm};
+    ghost use Rattle.semantics.specs.Syntax as syntax;
     ghost use Rattle.query_ast.specs.Syntax.{tree_form};
     ghost use Rattle.query_plan.specs.Coding.{coded_tree};
 
-    ghost Value = { TreeForm };
+    ghost Value = { syntax.Query };
 
     ghost coded = { coded_tree };
 

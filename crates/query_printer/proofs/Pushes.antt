@@ -9,7 +9,8 @@ use Rattle.query_ast.specs.declared.group.GroupingElement.{GroupingElement}
 use Rattle.query_ast.specs.declared.group.GroupingElement.TheVariants as variant
 use Rattle.query_ast.specs.declared.group.GroupingElement.TheOpen as layer
 use Rattle.query_ast.specs.declared.group.GroupingElement.TheFolds.{fold-roll-GroupingElement}
-use Rattle.semantics.specs.Syntax.{ElementForm, element_forms, sets}
+use Rattle.semantics.specs.Syntax as syntax
+use Rattle.semantics.specs.Syntax.{element_forms, sets}
 use Rattle.query_ast.specs.Syntax.{element_form, element_step}
 use Rattle.semantics.specs.Canonical.{comma_list, group_texts, list_clause, name_at}
 
@@ -30,7 +31,7 @@ above_zero (suc n) h = omega arith
 
 -- The form of GROUPING SETS.
 pub sets_form : (v : Vec GroupingElement Global) → element_form (variant.Sets v) ≡ sets (element_forms (map element_form v.items))
-sets_form v = ap element_form (sym (variant.rolls-Sets v)) ∙ fold-roll-GroupingElement ElementForm element_step (layer.Sets v)
+sets_form v = ap element_form (sym (variant.rolls-Sets v)) ∙ fold-roll-GroupingElement syntax.GroupingElement element_step (layer.Sets v)
 
 -- A clause of groups, one at least, is its keywords and its list.
 pub group_clause : (keywords : List ℕ) (groups : List GroupingElement) → 0 < length groups → list_clause keywords (group_texts (element_forms (map element_form groups))) ≡ keywords ++ comma_list (group_texts (element_forms (map element_form groups)))

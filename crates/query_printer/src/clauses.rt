@@ -123,11 +123,11 @@ fn push_columns(out: &mut String, columns: &[Column], places: &[usize]) -> Resul
 
 /// An item: its expression, and its alias.
 impl Written for Item {
-    ghost use Rattle.semantics.specs.Syntax.{ItemForm};
+    ghost use Rattle.semantics.specs.Syntax.{SelectItem};
     ghost use Rattle.query_ast.specs.Syntax.{item_form};
     ghost use Rattle.semantics.specs.Canonical.{item_text};
 
-    ghost Form = { ItemForm };
+    ghost Form = { SelectItem };
 
     ghost form = { item_form };
 
@@ -163,11 +163,11 @@ fn nulls_text(descending: bool, nulls_first: bool) -> &'static str
 
 /// A key. NULLS FIRST and NULLS LAST are written only where they are not the default.
 impl Written for Key {
-    ghost use Rattle.semantics.specs.Syntax.{KeyForm};
+    ghost use Rattle.semantics.specs.Syntax.{SortKey};
     ghost use Rattle.query_ast.specs.Syntax.{key_form};
     ghost use Rattle.semantics.specs.Canonical.{key_text};
 
-    ghost Form = { KeyForm };
+    ghost Form = { SortKey };
 
     ghost form = { key_form };
 

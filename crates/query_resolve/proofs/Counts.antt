@@ -5,7 +5,7 @@ use Rattle.std.proofs.lemmas.Bool.{cases_lt}
 use Rattle.std.proofs.lemmas.List.{length-map}
 use Rattle.std.proofs.Math.Nat.{mul_assoc, mul_comm, mul-le-mul_left, pow-suc}
 use Rattle.query_ast.specs.declared.group.GroupingElement.TheVariants as variant
-use Rattle.semantics.specs.Syntax.{ElementForm}
+use Rattle.semantics.specs.Syntax.{GroupingElement}
 use Rattle.query_ast.specs.Syntax.{element_form, units_form}
 use Rattle.semantics.specs.Sets.{cross_product, cube_sets, group_sets, rollup_sets}
 use Rattle.query_resolve.proofs.Expansions.{cube_form, rollup_form}
@@ -27,11 +27,11 @@ length_crossed (x ∷ xs) ys = omega (arith, length_crossed xs ys, length-append
 
 -- How many sets a ROLLUP of the program stands for.
 pub rollup_count : (v : Vec (Vec (List ℕ))) → length (group_sets (element_form (variant.Rollup v))) ≡ length v.items + 1
-rollup_count v = ap (λ (g : ElementForm). length (group_sets g)) (rollup_form v) ∙ omega (arith, length_rollup (units_form v.items), length-map v.items (λ u. u.items))
+rollup_count v = ap (λ (g : GroupingElement). length (group_sets g)) (rollup_form v) ∙ omega (arith, length_rollup (units_form v.items), length-map v.items (λ u. u.items))
 
 -- How many sets a CUBE of the program stands for.
 pub cube_count : (v : Vec (Vec (List ℕ))) → length (group_sets (element_form (variant.Cube v))) ≡ 2 ^ length v.items
-cube_count v = ap (λ (g : ElementForm). length (group_sets g)) (cube_form v) ∙ (length_cube (units_form v.items) ∙ ap (λ (n : ℕ). 2 ^ n) (length-map v.items (λ u. u.items)))
+cube_count v = ap (λ (g : GroupingElement). length (group_sets g)) (cube_form v) ∙ (length_cube (units_form v.items) ∙ ap (λ (n : ℕ). 2 ^ n) (length-map v.items (λ u. u.items)))
 
 -- A number above the greatest is capped to it.
 at_most : (x m : ℕ) → m ≤ x → min x m ≡ m

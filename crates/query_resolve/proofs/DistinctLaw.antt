@@ -5,7 +5,7 @@ use Rattle.std.specs.List.{Contains, list_any, slice_index_or}
 use Rattle.std.proofs.lemmas.List.Elements.{filter_passes}
 use Rattle.std.proofs.lemmas.List.Kept.{AllPairs-cons, AllPairs-filter}
 use Rattle.semantics.specs.Columns.{Field}
-use Rattle.semantics.specs.Syntax.{TreeForm}
+use Rattle.semantics.specs.Syntax.{Query}
 use Rattle.semantics.specs.Names.{distinct}
 use Rattle.query_resolve.specs.Laws.{AreDistinct, HaveSameColumns, KeepsFirst}
 use Rattle.semantics.specs.Sets.{expanded_sets, same_columns, sets_of}
@@ -162,7 +162,7 @@ distinct_keeps same itself joined xs = distinct_are same (λ a b. same a b ≡ t
 sets_are : (xs : List (List ℕ)) → AreDistinct HaveSameColumns xs (distinct same_columns xs)
 sets_are xs = distinct_are same_columns HaveSameColumns (λ a b. (columns_same a b, same_from_columns a b)) columns_itself columns_joined xs
 
-pub distinct_is : (fields : List Field) (t : TreeForm) → t.distinct_sets ≡ true → AreDistinct HaveSameColumns (expanded_sets fields t) (sets_of fields t)
+pub distinct_is : (fields : List Field) (t : Query) → t.distinct_sets ≡ true → AreDistinct HaveSameColumns (expanded_sets fields t) (sets_of fields t)
 distinct_is fields t written =
     subst (λ (d : Bool). AreDistinct HaveSameColumns (expanded_sets fields t) (if d then distinct same_columns (expanded_sets fields t) else expanded_sets fields t)) (sym written)
     (sets_are (expanded_sets fields t))

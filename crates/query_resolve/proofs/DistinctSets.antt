@@ -7,7 +7,7 @@ use Rattle.std.specs.Str.{bytes_eq}
 use Rattle.std.proofs.lemmas.List.{map-append, take_more}
 use Rattle.std.proofs.lemmas.Slice.Eq.{bytes_eq-Decides}
 use Rattle.semantics.specs.Columns.{Field}
-use Rattle.semantics.specs.Syntax.{TreeForm}
+use Rattle.semantics.specs.Syntax.{Query}
 use Rattle.semantics.specs.Names.{distinct, places_of}
 use Rattle.query_resolve.specs.Resolution.{contents}
 use Rattle.semantics.specs.Sets.{expansion, expanded_sets, grouping_places, ordered_set, same_columns, sets_of}
@@ -118,15 +118,15 @@ kept_sets false grouping places xs all is = is
 -- ---- the sets of a query
 
 -- A set of these names.
-abbrev pub set_of_names : List Field → TreeForm → List (List ℕ) → List ℕ
+abbrev pub set_of_names : List Field → Query → List (List ℕ) → List ℕ
 set_of_names fields t names = ordered_set (grouping_places fields t) (places_of fields names)
 
 -- The expanded sets that a query keeps, as their names are written.
-abbrev pub names_kept : List Field → TreeForm → List (List (List ℕ))
+abbrev pub names_kept : List Field → Query → List (List (List ℕ))
 names_kept fields t = if t.distinct_sets then distinct (λ a b. same_columns (set_of_names fields t a) (set_of_names fields t b)) (expansion t.groups) else expansion t.groups
 
 -- Each grouping set of a query is that of some names.
-pub sets_by_names : (fields : List Field) (t : TreeForm) → sets_of fields t ≡ map (set_of_names fields t) (names_kept fields t)
+pub sets_by_names : (fields : List Field) (t : Query) → sets_of fields t ≡ map (set_of_names fields t) (names_kept fields t)
 sets_by_names fields t =
     elim t.distinct_sets as (λ (d : Bool). (if d then distinct same_columns (expanded_sets fields t) else expanded_sets fields t)
     ≡ map (set_of_names fields t) (if d then distinct (λ a b. same_columns (set_of_names fields t a) (set_of_names fields t b)) (expansion t.groups) else expansion t.groups)) [

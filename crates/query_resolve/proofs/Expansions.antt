@@ -7,7 +7,7 @@ use Rattle.semantics.specs.Columns.{Field}
 use Rattle.query_ast.specs.declared.group.GroupingElement.TheVariants as variant
 use Rattle.query_ast.specs.declared.group.GroupingElement.TheOpen as layer
 use Rattle.query_ast.specs.declared.group.GroupingElement.TheFolds.{fold-roll-GroupingElement}
-use Rattle.semantics.specs.Syntax.{ElementForm, rollup, cube}
+use Rattle.semantics.specs.Syntax.{GroupingElement, rollup, cube}
 use Rattle.query_ast.specs.Syntax.{element_form, element_step, units_form}
 use Rattle.semantics.specs.Names.{place_of, places_of}
 use Rattle.semantics.specs.Sets.{cross_product, cube_sets, rollup_sets}
@@ -44,8 +44,8 @@ crossed_places fields (first ∷ firsts) seconds =
 
 -- The form of a ROLLUP.
 pub rollup_form : (v : Vec (Vec (List ℕ))) → element_form (variant.Rollup v) ≡ rollup (units_form v.items)
-rollup_form v = ap element_form (sym (variant.rolls-Rollup v)) ∙ fold-roll-GroupingElement ElementForm element_step (layer.Rollup v)
+rollup_form v = ap element_form (sym (variant.rolls-Rollup v)) ∙ fold-roll-GroupingElement GroupingElement element_step (layer.Rollup v)
 
 -- The form of a CUBE.
 pub cube_form : (v : Vec (Vec (List ℕ))) → element_form (variant.Cube v) ≡ cube (units_form v.items)
-cube_form v = ap element_form (sym (variant.rolls-Cube v)) ∙ fold-roll-GroupingElement ElementForm element_step (layer.Cube v)
+cube_form v = ap element_form (sym (variant.rolls-Cube v)) ∙ fold-roll-GroupingElement GroupingElement element_step (layer.Cube v)

@@ -30,7 +30,8 @@ use Rattle.semantics.specs.declared.literal.Literal.{Literal}
 use Rattle.semantics.specs.declared.aggregate.Aggregate.{Aggregate}
 use Rattle.semantics.specs.declared.function.ColumnFunction.{ColumnFunction}
 use Rattle.semantics.specs.Names.{PlannedFunction}
-use Rattle.semantics.specs.Syntax.{ExpressionForm, FunctionForm, OperandForm, PredicateForm, PredicateForms, name, grouping, function, over_all, over_filtered, expression, literal, or_of, and_of, not_of, truth_test, compare, between, member, null_test, column, no_parts, part, predicate_forms}
+use Rattle.semantics.specs.Syntax as syntax
+use Rattle.semantics.specs.Syntax.{name, grouping, function, over_all, over_filtered, expression, literal, or_of, and_of, not_of, truth_test, compare, between, member, null_test, column, no_parts, part, predicate_forms}
 use Rattle.query_ast.specs.Syntax.{expression_form, function_form, operand_form, predicate_form, expression_step, function_step, operand_step, predicate_step}
 use Rattle.semantics.specs.Inside.Same.{same_expression, same_filter, same_operand, same_parts, same_planned, same_predicate, same_set_function}
 
@@ -72,7 +73,7 @@ column_functions a b = search rules
 
 -- Two predicates are the same exactly where they are equal, and so for what stands in them.
 mutual
-  pub same_predicate-Decides : (p q : PredicateForm) → Decides (same_predicate p q) (p ≡ q)
+  pub same_predicate-Decides : (p q : syntax.Predicate) → Decides (same_predicate p q) (p ≡ q)
   same_predicate-Decides (or_of ps) (or_of qs) = via (λ k. ap or_of k) (λ f. cc) (same_parts-Decides ps qs)
   same_predicate-Decides (and_of ps) (and_of qs) = via (λ k. ap and_of k) (λ f. cc) (same_parts-Decides ps qs)
   same_predicate-Decides (not_of p) (not_of q) = via (λ k. ap not_of k) (λ f. cc) (same_predicate-Decides p q)
@@ -90,34 +91,34 @@ mutual
   same_predicate-Decides (column n) (column m) = via (λ k. ap column k) (λ f. cc) (bytes_eq-Decides n m)
   same_predicate-Decides p q = (λ h. absurd cc, λ h. absurd cc)
 
-  same_parts-Decides : (ps qs : PredicateForms) → Decides (same_parts ps qs) (ps ≡ qs)
+  same_parts-Decides : (ps qs : syntax.Predicates) → Decides (same_parts ps qs) (ps ≡ qs)
   same_parts-Decides no_parts no_parts = (λ h. refl, λ h. refl)
   same_parts-Decides (part p ps) (part q qs) = via (λ k. let e = k.0 in let f = k.1 in cc) (λ e. (cc, cc)) (both _ _ (same_predicate-Decides p q) (same_parts-Decides ps qs))
   same_parts-Decides ps qs = (λ h. absurd cc, λ h. absurd cc)
 
-  same_operand-Decides : (x y : OperandForm) → Decides (same_operand x y) (x ≡ y)
+  same_operand-Decides : (x y : syntax.Operand) → Decides (same_operand x y) (x ≡ y)
   same_operand-Decides (expression e) (expression d) = via (λ k. ap expression k) (λ f. cc) (same_expression-Decides e d)
   same_operand-Decides (literal a) (literal b) = via (λ k. ap literal k) (λ f. cc) (literals a b)
   same_operand-Decides x y = (λ h. absurd cc, λ h. absurd cc)
 
-  same_expression-Decides : (e d : ExpressionForm) → Decides (same_expression e d) (e ≡ d)
+  same_expression-Decides : (e d : syntax.Expression) → Decides (same_expression e d) (e ≡ d)
   same_expression-Decides (name n) (name m) = via (λ k. ap name k) (λ f. cc) (bytes_eq-Decides n m)
   same_expression-Decides (grouping ns) (grouping ms) = via (λ k. ap grouping k) (λ f. cc) (slice_eq-Decides bytes_eq-Decides ns ms _ refl)
   same_expression-Decides (function f) (function g) = via (λ k. ap function k) (λ h. cc) (same_set_function-Decides f g)
   same_expression-Decides e d = (λ h. absurd cc, λ h. absurd cc)
 
-  same_set_function-Decides : (f g : FunctionForm) → Decides (same_set_function f g) (f ≡ g)
+  same_set_function-Decides : (f g : syntax.SetFunction) → Decides (same_set_function f g) (f ≡ g)
   same_set_function-Decides (over_all a) (over_all b) = via (λ k. ap over_all k) (λ h. cc) (aggregates a b)
   same_set_function-Decides (over_filtered a p) (over_filtered b q) = via (λ k. let e = k.0 in let f = k.1 in cc) (λ e. (cc, cc)) (both _ _ (aggregates a b) (same_predicate-Decides p q))
   same_set_function-Decides f g = (λ h. absurd cc, λ h. absurd cc)
 
-pub predicates_are_same : (p q : PredicateForm) → same_predicate p q ≡ true → p ≡ q
+pub predicates_are_same : (p q : syntax.Predicate) → same_predicate p q ≡ true → p ≡ q
 predicates_are_same p q h = (same_predicate-Decides p q).0 h
 
-pub predicate_itself : (p : PredicateForm) → same_predicate p p ≡ true
+pub predicate_itself : (p : syntax.Predicate) → same_predicate p p ≡ true
 predicate_itself p = (same_predicate-Decides p p).1 refl
 
-same_filter-Decides : (o r : Option PredicateForm) → Decides (same_filter o r) (o ≡ r)
+same_filter-Decides : (o r : Option syntax.Predicate) → Decides (same_filter o r) (o ≡ r)
 same_filter-Decides None None = (λ h. refl, λ h. refl)
 same_filter-Decides None (Some q) = (λ h. absurd cc, λ h. absurd cc)
 same_filter-Decides (Some p) None = (λ h. absurd cc, λ h. absurd cc)
@@ -165,19 +166,19 @@ parts (x ∷ xs) (y ∷ ys) = via (λ k. let e = k.0 in let f = k.1 in cc) (λ e
 
 -- ---- what the derived `==` computes of two trees, where that of what they hold is known
 
-abbrev operand_seen : Operand-F Expression Operand Predicate SetFunction → OperandForm
+abbrev operand_seen : Operand-F Expression Operand Predicate SetFunction → syntax.Operand
 operand_seen x = operand_step (map-Operand _ _ _ _ _ _ _ _ expression_form operand_form predicate_form function_form x)
 
 operand_is : (d : Operand) → operand_form d ≡ operand_seen (out-Operand d)
 operand_is d = fold_out-Operand _ _ _ _ _ _ _ _ d
 
-abbrev expression_seen : Expression-F Expression Operand Predicate SetFunction → ExpressionForm
+abbrev expression_seen : Expression-F Expression Operand Predicate SetFunction → syntax.Expression
 expression_seen x = expression_step (map-Expression _ _ _ _ _ _ _ _ expression_form operand_form predicate_form function_form x)
 
 expression_is : (d : Expression) → expression_form d ≡ expression_seen (out-Expression d)
 expression_is d = fold_out-Expression _ _ _ _ _ _ _ _ d
 
-abbrev function_seen : SetFunction-F Expression Operand Predicate SetFunction → FunctionForm
+abbrev function_seen : SetFunction-F Expression Operand Predicate SetFunction → syntax.SetFunction
 function_seen x = function_step (map-SetFunction _ _ _ _ _ _ _ _ expression_form operand_form predicate_form function_form x)
 
 function_is : (d : SetFunction) → function_form d ≡ function_seen (out-SetFunction d)
@@ -186,7 +187,7 @@ function_is d = fold_out-SetFunction _ _ _ _ _ _ _ _ d
 abbrev Layer : Type 0
 Layer = Predicate-F Expression Operand Predicate SetFunction
 
-abbrev seen : Layer → PredicateForm
+abbrev seen : Layer → syntax.Predicate
 seen x = predicate_step (map-Predicate _ _ _ _ _ _ _ _ expression_form operand_form predicate_form function_form x)
 
 seen_is : (d : Predicate) (x : Layer) → out-Predicate d ≡ x → predicate_form d ≡ seen x

@@ -2,14 +2,14 @@
 use Rattle.std.proofs.Common.{◌≡◌, Bool, true, false, List, [], ◌∷◌, None, refl, codes}
 use Rattle.semantics.specs.declared.kind.Kind.TheVariants as kind
 use Rattle.semantics.specs.Columns.{Field}
-use Rattle.semantics.specs.Syntax.{TreeForm, set, sets, no_groups, group}
+use Rattle.semantics.specs.Syntax.{Query, set, sets, no_groups, group}
 use Rattle.semantics.specs.Sets.{sets_of}
 
 abbrev fields : List Field
 fields = record { name = codes "d"; kind = kind.Text } ∷ record { name = codes "r"; kind = kind.Text } ∷ []
 
 -- GROUP BY GROUPING SETS ((r, d), (d, r), (), ()), with DISTINCT or without it
-abbrev twice : Bool → TreeForm
+abbrev twice : Bool → Query
 twice distinct = record {
   items = [];
   where_condition = None;

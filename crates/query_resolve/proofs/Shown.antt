@@ -3,15 +3,15 @@ use Rattle.std.proofs.Common.{◌≡◌, ◌∙◌, ◌<◌, ◌+◌, ◌||◌, 
 use Rattle.std.specs.Prelude.{position, slice_get, unwrap_or, filter_map}
 use Rattle.std.specs.Option.{option_and_then, option_map_or}
 use Rattle.std.specs.List.{Contains, cons_option, list_any, position_or_len, slice_index_or}
-use Rattle.semantics.specs.Aggregates.{Summary, agg, plain}
+use Rattle.semantics.specs.Aggregates.{CellValue, agg, plain}
 use Rattle.semantics.specs.Columns.{Field}
-use Rattle.semantics.specs.Found.{aggregate_function, aggregate_functions}
-use Rattle.semantics.specs.Groups.{Key, Row}
+use Rattle.semantics.specs.ResultRows.{aggregate_function, aggregate_functions}
+use Rattle.semantics.specs.Groups.{Key, Record}
 use Rattle.semantics.specs.Inside.Same.{same_planned}
 use Rattle.semantics.specs.Names.{PlannedFunction, distinct, planned_function}
-use Rattle.semantics.specs.Rows.{expression_shown}
+use Rattle.semantics.specs.Rows.{expression_value}
 use Rattle.semantics.specs.SetFunctions.{functions_of, set_functions}
-use Rattle.semantics.specs.Syntax.{FunctionForm, TreeForm, function}
+use Rattle.semantics.specs.Syntax.{SetFunction, Query, function}
 use Rattle.semantics.specs.Values.{null}
 use Rattle.query_resolve.proofs.Distinct.{any_distinct}
 use Rattle.query_resolve.proofs.Rows.{or_true}
@@ -49,7 +49,7 @@ first_value {A} {B} test F v d same (x ∷ xs) h =
     ] refl h
 
 -- A set function that the query has is among the different ones.
-pub planned_there : (fields : List Field) (f : FunctionForm) (p : PlannedFunction) → planned_function fields f ≡ Some p → (fs : List FunctionForm) (k : ℕ) → k < length fs → slice_index_or fs k f ≡ f
+pub planned_there : (fields : List Field) (f : SetFunction) (p : PlannedFunction) → planned_function fields f ≡ Some p → (fs : List SetFunction) (k : ℕ) → k < length fs → slice_index_or fs k f ≡ f
     → list_any (λ y. same_planned y p) (filter_map (planned_function fields) fs) ≡ true
 planned_there fields f p is [] k below there = absurd (omega arith)
 planned_there fields f p is (g ∷ fs) zero below there =
@@ -84,17 +84,17 @@ same_turned a b =
     ] refl
 
 -- The value that a row of a group shows for a set function of the query is the value of that function over the members of the group.
-pub shown_value : (fields : List Field) (t : TreeForm) (set : List ℕ) (key : Key) (rows : List Row) (f : FunctionForm) → Contains (set_functions t) f
-    → expression_shown fields t set key (map (λ g. agg g rows) (aggregate_functions fields t)) (function f)
+pub shown_value : (fields : List Field) (t : Query) (set : List ℕ) (key : Key) (rows : List Record) (f : SetFunction) → Contains (set_functions t) f
+    → expression_value fields t set key (map (λ g. agg g rows) (aggregate_functions fields t)) (function f)
     ≡ option_map_or (λ p. agg (aggregate_function fields p) rows) (planned_function fields f) (plain null)
 shown_value fields t set key rows f there =
     let all : List PlannedFunction = functions_of fields t in
-    let F : PlannedFunction → Summary = λ p. agg (aggregate_function fields p) rows in
+    let F : PlannedFunction → CellValue = λ p. agg (aggregate_function fields p) rows in
     elim (planned_function fields f) as (λ (o : Option PlannedFunction). planned_function fields f ≡ o
     → unwrap_or (option_and_then (slice_get (map (λ g. agg g rows) (aggregate_functions fields t))) (option_and_then (λ p. position (same_planned p) all) o)) (plain null) ≡ option_map_or F o (plain null)) [
       | None ↦ λ _. refl
       | Some p ↦ λ e.
-          ap (λ (cells : List Summary). unwrap_or (option_and_then (slice_get cells) (position (same_planned p) all)) (plain null)) (map_twice (λ g. agg g rows) (aggregate_function fields) all)
+          ap (λ (cells : List CellValue). unwrap_or (option_and_then (slice_get cells) (position (same_planned p) all)) (plain null)) (map_twice (λ g. agg g rows) (aggregate_function fields) all)
           ∙ first_value (same_planned p) F (F p) (plain null) (λ q h. ap F (sym (planned_are_same p q h))) all
           (any_agree (same_planned p) (λ y. same_planned y p) (λ y. same_turned p y) all
           ∙ any_distinct same_planned planned_are_same p (filter_map (planned_function fields) (set_functions t))

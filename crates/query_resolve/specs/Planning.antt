@@ -3,13 +3,13 @@ use Rattle.std.specs.Prelude.{List, map}
 use Rattle.std.specs.Borrow.{Bor}
 use Rattle.std.specs.Option.{option_map}
 use Rattle.query_ast.specs.declared.expression.Predicate.{Predicate}
-use Rattle.semantics.specs.Syntax.{PredicateForm}
+use Rattle.semantics.specs.Syntax as syntax
 use Rattle.query_ast.specs.Syntax.{predicate_form}
 use Rattle.query_resolve.specs.declared.planning.Planned.{Planned}
 use Rattle.semantics.specs.Names.{PlannedFunction}
 
 -- Filters behind references.
-abbrev pub filter_forms : List (Bor Predicate) → List PredicateForm
+abbrev pub filter_forms : List (Bor Predicate) → List syntax.Predicate
 filter_forms filters = map (λ p. predicate_form p.now) filters
 
 -- A set function whose filter is behind a reference.

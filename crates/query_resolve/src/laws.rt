@@ -2,14 +2,14 @@
 
 ghost use Rattle.std.specs.Prelude.{◌≡◌, ℕ, Bool, List, true, Decides};
 ghost use Rattle.semantics.specs.Columns.{Field};
-ghost use Rattle.semantics.specs.Syntax.{FunctionForm, TreeForm, PredicateForm, function};
+ghost use Rattle.semantics.specs.Syntax.{SetFunction, Query, Predicate, function};
 ghost use Rattle.semantics.specs.Names.{distinct, PlannedFunction};
 ghost use Rattle.semantics.specs.Sets.{cross_product, cube_sets, expanded_sets, rollup_sets, sets_of};
 ghost use Rattle.semantics.specs.Inside.Same.{same_planned, same_predicate};
 ghost use Rattle.query_resolve.specs.Laws.{AreDistinct, HaveSameColumns, IsCrossProduct, IsCube, IsRollup};
 ghost use Rattle.query_resolve.specs.Shown.{function_value, values_of_functions};
-ghost use Rattle.semantics.specs.Groups.{Key, Row};
-ghost use Rattle.semantics.specs.Rows.{expression_shown};
+ghost use Rattle.semantics.specs.Groups.{Key, Record};
+ghost use Rattle.semantics.specs.Rows.{expression_value};
 ghost use Rattle.semantics.specs.SetFunctions.{set_functions};
 ghost use Rattle.std.specs.List.{Contains};
 
@@ -29,7 +29,7 @@ pub fn cube_law()
 /// So no two of its sets have the same columns, and each set of the expanded list has its columns in one of them,
 /// ISO/IEC 9075-2 `<group by clause>`.
 pub fn distinct_law()
-    ensures { (fields : List Field) (t : TreeForm) → t.distinct_sets ≡ true
+    ensures { (fields : List Field) (t : Query) → t.distinct_sets ≡ true
         → AreDistinct HaveSameColumns (expanded_sets fields t) (sets_of fields t) }
 {}
 
@@ -50,7 +50,7 @@ pub fn cross_product_law()
 
 /// A law: two predicates are the same exactly where their trees are equal.
 pub fn same_predicate_law()
-    ensures { (p q : PredicateForm) → Decides (same_predicate p q) (p ≡ q) }
+    ensures { (p q : Predicate) → Decides (same_predicate p q) (p ≡ q) }
 {}
 
 /// A law: two set functions are the same exactly where the function, DISTINCT, the column and the filter are equal.
@@ -61,8 +61,8 @@ pub fn same_function_law()
 /// A law: what a row of a group shows for a set function of the query is the value of this function over the members of
 /// the group. So nobody has to believe in which order the different set functions stand.
 pub fn shown_law()
-    ensures { (fields : List Field) (t : TreeForm) (set : List ℕ) (key : Key) (rows : List Row)
-        (f : FunctionForm) → Contains (set_functions t) f
-        → expression_shown fields t set key (values_of_functions fields t rows) (function f)
+    ensures { (fields : List Field) (t : Query) (set : List ℕ) (key : Key) (rows : List Record)
+        (f : SetFunction) → Contains (set_functions t) f
+        → expression_value fields t set key (values_of_functions fields t rows) (function f)
         ≡ function_value fields rows f }
 {}

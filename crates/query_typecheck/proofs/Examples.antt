@@ -7,7 +7,7 @@ use Rattle.semantics.specs.declared.kind.Kind.TheVariants as kind
 use Rattle.semantics.specs.Columns.{Field}
 use Rattle.semantics.specs.declared.aggregate.Aggregate.TheVariants as aggregate
 use Rattle.semantics.specs.declared.literal.Literal.TheVariants as constant
-use Rattle.semantics.specs.Syntax.{ExpressionForm, ItemForm, PredicateForm, TreeForm, name, grouping, function, over_all, over_filtered, expression, literal, compare, column, set}
+use Rattle.semantics.specs.Syntax.{Expression, SelectItem, Predicate, Query, name, grouping, function, over_all, over_filtered, expression, literal, compare, column, set}
 use Rattle.semantics.specs.declared.query_fault.QueryFault.TheVariants as faults
 use Rattle.query_typecheck.specs.declared.scope.Clause.TheVariants as clause
 use Rattle.semantics.specs.declared.function.ColumnFunction.TheVariants as at
@@ -21,32 +21,32 @@ use Rattle.query_typecheck.specs.Typing.{takes}
 abbrev fields : List Field
 fields = record { name = codes "c"; kind = kind.Text } ∷ record { name = codes "q"; kind = kind.Int } ∷ record { name = codes "b"; kind = kind.Bool } ∷ []
 
-abbrev c : ExpressionForm
+abbrev c : Expression
 c = name (codes "c")
 
-abbrev q : ExpressionForm
+abbrev q : Expression
 q = name (codes "q")
 
-abbrev average : ExpressionForm
+abbrev average : Expression
 average = function (over_all (aggregate.Avg (codes "q")))
 
-abbrev item : ExpressionForm → ItemForm
+abbrev item : Expression → SelectItem
 item e = record { expression = e; alias = None }
 
 -- SELECT .. FROM lines GROUP BY c
-abbrev selected : List ItemForm → TreeForm
+abbrev selected : List SelectItem → Query
 selected items = record { items = items; where_condition = None; distinct_sets = false; groups = set (codes "c" ∷ []) ∷ []; having_condition = None; keys = [] }
 
 -- x = 1, where x is a name
-abbrev is_one : List ℕ → PredicateForm
+abbrev is_one : List ℕ → Predicate
 is_one x = compare (expression (name x)) Eq (literal (constant.Integer (pos 1)))
 
 -- SELECT c FROM lines WHERE x = 1
-abbrev where_one : List ℕ → TreeForm
+abbrev where_one : List ℕ → Query
 where_one x = record { items = item c ∷ []; where_condition = Some (is_one x); distinct_sets = false; groups = []; having_condition = None; keys = [] }
 
 -- SELECT c, AVG(q) AS m FROM lines GROUP BY c ORDER BY m
-abbrev by_average : TreeForm
+abbrev by_average : Query
 by_average = record {
   items = item c ∷ record { expression = average; alias = Some (codes "m") } ∷ [];
   where_condition = None;
@@ -160,7 +160,7 @@ of_a_text h = h
 -- ---- FILTER
 
 -- COUNT(*) FILTER (WHERE p)
-abbrev counted : PredicateForm → ExpressionForm
+abbrev counted : Predicate → Expression
 counted p = function (over_filtered aggregate.CountRows p)
 
 -- SELECT COUNT(*) FILTER (WHERE d = 1) names no column: d
@@ -185,7 +185,7 @@ types_in_filter = inl (
 )
 
 -- COUNT(*) = 1
-abbrev counts_one : PredicateForm
+abbrev counts_one : Predicate
 counts_one = compare (expression (function (over_all aggregate.CountRows))) Eq (literal (constant.Integer (pos 1)))
 
 -- SELECT COUNT(*) FILTER (WHERE COUNT(*) = 1): a set function in a FILTER
@@ -203,7 +203,7 @@ unfolding tests_of
 filter_of_any_column = refl
 
 -- SELECT COUNT(*), COUNT(*) FILTER (WHERE b), SUM(q) FILTER (WHERE b), COUNT(*) FILTER (WHERE q = 1), COUNT(*) FILTER (WHERE b)
-abbrev filtered_query : TreeForm
+abbrev filtered_query : Query
 filtered_query = selected (
     item (function (over_all aggregate.CountRows))
     ∷ item (counted (column (codes "b")))

@@ -13,7 +13,7 @@ use Rattle.semantics.specs.declared.aggregate.Aggregate.{Aggregate}
 use Rattle.semantics.specs.declared.aggregate.Aggregate.TheVariants as aggregate
 use Rattle.semantics.specs.declared.literal.Literal.{Literal}
 use Rattle.semantics.specs.declared.literal.Literal.TheVariants as constant
-use Rattle.semantics.specs.Syntax.{ExpressionForm, FunctionForm, ItemForm, KeyForm, OperandForm, PredicateForm, PredicateForms, TreeForm, name, grouping, function, over_all, over_filtered, expression, literal, or_of, and_of, not_of, truth_test, compare, between, member, null_test, column, no_parts, part, operands_of_atoms, operands_of_parts}
+use Rattle.semantics.specs.Syntax.{Expression, SetFunction, SelectItem, SortKey, Operand, Predicate, Predicates, Query, name, grouping, function, over_all, over_filtered, expression, literal, or_of, and_of, not_of, truth_test, compare, between, member, null_test, column, no_parts, part, operands_of_atoms, operands_of_parts}
 use Rattle.semantics.specs.Canonical.{header_text}
 use Rattle.semantics.specs.declared.query_fault.QueryFault.{QueryFault}
 use Rattle.semantics.specs.declared.query_fault.QueryFault.TheVariants.{UnknownColumn, TypesDisagree, NotGrouped, OverLimit, FunctionNotAllowed, RepeatedHeader}
@@ -72,14 +72,14 @@ column_first : (fields : List Field) (n : List ℕ) → first (column_faults fie
 column_first fields n = unless_first (is_some (place_of fields n)) (UnknownColumn n)
 
 -- A name at its place, where it has one, that is to be a grouping column.
-grouped_place : (fields : List Field) (t : TreeForm) (n : List ℕ) (o : Option ℕ) → place_of fields n ≡ o → first (unless (is_some o) (UnknownColumn n) ++ unless (list_any (bytes_eq n) (grouping_names t)) (NotGrouped n)) ≡ grouped_at_fault (grouping_places fields t) n o
+grouped_place : (fields : List Field) (t : Query) (n : List ℕ) (o : Option ℕ) → place_of fields n ≡ o → first (unless (is_some o) (UnknownColumn n) ++ unless (list_any (bytes_eq n) (grouping_names t)) (NotGrouped n)) ≡ grouped_at_fault (grouping_places fields t) n o
 grouped_place fields t n None at = refl
 grouped_place fields t n (Some place) at =
     unless_first (list_any (bytes_eq n) (grouping_names t)) (NotGrouped n)
     ∙ ap (λ (b : Bool). fault_unless b (NotGrouped n)) (sym (among_groups fields t n place at))
 
 -- A name that is to be a grouping column.
-grouped_first : (fields : List Field) (t : TreeForm) (n : List ℕ) → first (grouped_faults fields (grouping_names t) n) ≡ grouped_fault fields (grouping_places fields t) n
+grouped_first : (fields : List Field) (t : Query) (n : List ℕ) → first (grouped_faults fields (grouping_names t) n) ≡ grouped_fault fields (grouping_places fields t) n
 grouped_first fields t n = grouped_place fields t n (place_of fields n) refl
 
 -- Two types that are to be one.
@@ -153,25 +153,25 @@ after_name (Some x) b c e = refl
 after_name None b c e = or_none b ∙ e
 
 -- Predicates in a clause, given the faults of each expression there.
-module _ (fields : List Field) (grouped : List ℕ) (c : Clause) (of_expression : ExpressionForm → List QueryFault) (same : (e : ExpressionForm) → first (of_expression e) ≡ expression_fault fields grouped c e) where
-  operand_first : (x : OperandForm) → first (operand_faults of_expression x) ≡ operand_fault fields grouped c x
+module _ (fields : List Field) (grouped : List ℕ) (c : Clause) (of_expression : Expression → List QueryFault) (same : (e : Expression) → first (of_expression e) ≡ expression_fault fields grouped c e) where
+  operand_first : (x : Operand) → first (operand_faults of_expression x) ≡ operand_fault fields grouped c x
   operand_first (expression e) = same e
   operand_first (literal a) = refl
 
   -- The operands of an atom, and then their types.
-  operands_first : (x : OperandForm) (xs : List OperandForm) → first (atom_faults of_expression fields (x ∷ xs)) ≡ option_or (first_fault (operand_fault fields grouped c) (x ∷ xs)) (first_fault (λ y. agreement_fault (operand_kind fields x) (operand_kind fields y)) xs)
+  operands_first : (x : Operand) (xs : List Operand) → first (atom_faults of_expression fields (x ∷ xs)) ≡ option_or (first_fault (operand_fault fields grouped c) (x ∷ xs)) (first_fault (λ y. agreement_fault (operand_kind fields x) (operand_kind fields y)) xs)
   operands_first x xs =
       then_first (flat_map (operand_faults of_expression) (x ∷ xs)) (flat_map (λ y. agreement_faults (operand_kind fields x) (operand_kind fields y)) xs) _ _
       (each_first (operand_faults of_expression) (operand_fault fields grouped c) operand_first (x ∷ xs))
       (each_first (λ y. agreement_faults (operand_kind fields x) (operand_kind fields y)) (λ y. agreement_fault (operand_kind fields x) (operand_kind fields y)) (λ y. agreement_first (operand_kind fields x) (operand_kind fields y)) xs)
 
   -- The one atom of a predicate.
-  atom_first : (x : OperandForm) (xs : List OperandForm) (o : Option QueryFault) → option_or (first_fault (operand_fault fields grouped c) (x ∷ xs)) (first_fault (λ y. agreement_fault (operand_kind fields x) (operand_kind fields y)) xs) ≡ o → first (flat_map (atom_faults of_expression fields) ((x ∷ xs) ∷ [])) ≡ o
+  atom_first : (x : Operand) (xs : List Operand) (o : Option QueryFault) → option_or (first_fault (operand_fault fields grouped c) (x ∷ xs)) (first_fault (λ y. agreement_fault (operand_kind fields x) (operand_kind fields y)) xs) ≡ o → first (flat_map (atom_faults of_expression fields) ((x ∷ xs) ∷ [])) ≡ o
   atom_first x xs o e = one_first (atom_faults of_expression fields) (x ∷ xs) o (operands_first x xs ∙ e)
 
   mutual
     -- The first fault of a predicate.
-    predicate_first : (p : PredicateForm) → first (predicate_faults of_expression fields p) ≡ predicate_fault fields grouped c p
+    predicate_first : (p : Predicate) → first (predicate_faults of_expression fields p) ≡ predicate_fault fields grouped c p
     predicate_first (or_of ps) = parts_first ps
     predicate_first (and_of ps) = parts_first ps
     predicate_first (not_of p) = predicate_first p
@@ -193,20 +193,20 @@ module _ (fields : List Field) (grouped : List ℕ) (c : Clause) (of_expression 
         (after_name (expression_fault fields grouped c (name n)) (agreement_fault (column_kind fields n) (Some kind.Bool)) (kind_fault (kind.Bool ∷ []) (column_kind fields n)) (truth_first (column_kind fields n)))
 
     -- The first fault of the parts of an OR or an AND.
-    parts_first : (ps : PredicateForms) → first (flat_map (atom_faults of_expression fields) (operands_of_parts ps)) ≡ parts_fault fields grouped c ps
+    parts_first : (ps : Predicates) → first (flat_map (atom_faults of_expression fields) (operands_of_parts ps)) ≡ parts_fault fields grouped c ps
     parts_first no_parts = refl
     parts_first (part p ps) =
         lists_first (atom_faults of_expression fields) (operands_of_atoms p) (operands_of_parts ps) (predicate_fault fields grouped c p) (parts_fault fields grouped c ps) (predicate_first p) (parts_first ps)
 
   -- The first fault of the predicate of a clause, where it is written.
-  clause_first : (o : Option PredicateForm) → first (clause_faults of_expression fields o) ≡ clause_fault fields grouped c o
+  clause_first : (o : Option Predicate) → first (clause_faults of_expression fields o) ≡ clause_fault fields grouped c o
   clause_first None = refl
   clause_first (Some p) = predicate_first p
 
 -- ---- expressions
 
 -- The first fault of an expression over one record.
-record_first : (fields : List Field) (grouped : List ℕ) (e : ExpressionForm) → first (record_faults fields e) ≡ expression_fault fields grouped clause.Where e
+record_first : (fields : List Field) (grouped : List ℕ) (e : Expression) → first (record_faults fields e) ≡ expression_fault fields grouped clause.Where e
 record_first fields grouped (name n) = column_first fields n
 record_first fields grouped (grouping ns) = refl
 record_first fields grouped (function (over_all a)) = refl
@@ -226,7 +226,7 @@ others_may : (a : Aggregate) → not (is_average a) ≡ not (is_average a && not
 others_may a = elim (is_average a) as (λ (t : Bool). not t ≡ not (t && not false)) [ true ↦ refl | false ↦ refl ]
 
 -- The first fault of a set function, where the clause says of AVG what the test says.
-function_first : (fields : List Field) (may_average : Bool) (c : Clause) → ((a : Aggregate) → may_stand c a ≡ not (is_average a && not may_average)) → (f : FunctionForm) → first (function_faults may_average fields f) ≡ function_fault fields c f
+function_first : (fields : List Field) (may_average : Bool) (c : Clause) → ((a : Aggregate) → may_stand c a ≡ not (is_average a && not may_average)) → (f : SetFunction) → first (function_faults may_average fields f) ≡ function_fault fields c f
 function_first fields may_average c may (over_all a) =
     function_cases (is_average a && not may_average) (argument_faults fields a) [] (aggregate_fault fields a) None (aggregate_fault fields a) (argument_first fields a) refl (or_none (aggregate_fault fields a))
     ∙ ap (λ (t : Bool). cond t (aggregate_fault fields a) (Some FunctionNotAllowed)) (sym (may a))
@@ -236,19 +236,19 @@ function_first fields may_average c may (over_filtered a p) =
     ∙ ap (λ (t : Bool). cond t both (Some FunctionNotAllowed)) (sym (may a))
 
 -- The first fault of an expression in SELECT.
-select_first : (fields : List Field) (t : TreeForm) (e : ExpressionForm) → first (group_faults true fields (grouping_names t) e) ≡ expression_fault fields (grouping_places fields t) clause.Select e
+select_first : (fields : List Field) (t : Query) (e : Expression) → first (group_faults true fields (grouping_names t) e) ≡ expression_fault fields (grouping_places fields t) clause.Select e
 select_first fields t (name n) = grouped_first fields t n
 select_first fields t (grouping ns) = each_first (grouped_faults fields (grouping_names t)) (grouped_fault fields (grouping_places fields t)) (grouped_first fields t) ns
 select_first fields t (function f) = function_first fields true clause.Select each_may f
 
 -- The first fault of an expression in HAVING.
-having_first : (fields : List Field) (t : TreeForm) (e : ExpressionForm) → first (group_faults false fields (grouping_names t) e) ≡ expression_fault fields (grouping_places fields t) clause.Having e
+having_first : (fields : List Field) (t : Query) (e : Expression) → first (group_faults false fields (grouping_names t) e) ≡ expression_fault fields (grouping_places fields t) clause.Having e
 having_first fields t (name n) = grouped_first fields t n
 having_first fields t (grouping ns) = each_first (grouped_faults fields (grouping_names t)) (grouped_fault fields (grouping_places fields t)) (grouped_first fields t) ns
 having_first fields t (function f) = function_first fields false clause.Having others_may f
 
 -- The first fault of an expression in ORDER BY.
-order_first : (fields : List Field) (t : TreeForm) (e : ExpressionForm) → first (group_faults false fields (grouping_names t) e) ≡ expression_fault fields (grouping_places fields t) clause.OrderBy e
+order_first : (fields : List Field) (t : Query) (e : Expression) → first (group_faults false fields (grouping_names t) e) ≡ expression_fault fields (grouping_places fields t) clause.OrderBy e
 order_first fields t (name n) = grouped_first fields t n
 order_first fields t (grouping ns) = each_first (grouped_faults fields (grouping_names t)) (grouped_fault fields (grouping_places fields t)) (grouped_first fields t) ns
 order_first fields t (function f) = function_first fields false clause.OrderBy others_may f
@@ -299,7 +299,7 @@ eight_first xa xb xc xd xe xg xh xi a b c d e g h i pa pb pc pd pe pg ph pi =
     ∙ in_order a b c d e g h i
 
 -- The first of the faults of a query.
-pub first_of_faults : (fields : List Field) (t : TreeForm) → slice_get (query_faults fields t) 0 ≡ query_fault fields t
+pub first_of_faults : (fields : List Field) (t : Query) → slice_get (query_faults fields t) 0 ≡ query_fault fields t
 unfolding query_faults tests_of
 first_of_faults fields t =
     let groups = grouping_names t in
@@ -308,26 +308,26 @@ first_of_faults fields t =
     (clause_faults (record_faults fields) fields t.where_condition)
     (flat_map (column_faults fields) groups)
     (unless (nat_le (length (expansion t.groups)) 256) OverLimit)
-    (flat_map (λ (i : ItemForm). group_faults true fields groups i.expression) t.items)
+    (flat_map (λ (i : SelectItem). group_faults true fields groups i.expression) t.items)
     (header_faults (map header_text t.items))
     (clause_faults (group_faults false fields groups) fields t.having_condition)
-    (flat_map (λ (k : KeyForm). group_faults false fields groups (key_expression t.items k.expression)) t.keys)
+    (flat_map (λ (k : SortKey). group_faults false fields groups (key_expression t.items k.expression)) t.keys)
     (unless (nat_le (length (functions_of fields t)) 64) OverLimit)
     (clause_fault fields grouped clause.Where t.where_condition)
     (first_fault (column_fault fields) groups)
     (limit_fault 256 (length (expansion t.groups)))
-    (first_fault (λ (i : ItemForm). expression_fault fields grouped clause.Select i.expression) t.items)
+    (first_fault (λ (i : SelectItem). expression_fault fields grouped clause.Select i.expression) t.items)
     (headers_fault (map header_text t.items))
     (clause_fault fields grouped clause.Having t.having_condition)
-    (first_fault (λ (k : KeyForm). expression_fault fields grouped clause.OrderBy (key_expression t.items k.expression)) t.keys)
+    (first_fault (λ (k : SortKey). expression_fault fields grouped clause.OrderBy (key_expression t.items k.expression)) t.keys)
     (limit_fault 64 (length (functions_of fields t)))
     (clause_first fields grouped clause.Where (record_faults fields) (record_first fields grouped) t.where_condition)
     (each_first (column_faults fields) (column_fault fields) (column_first fields) groups)
     (limit_first 256 (length (expansion t.groups)))
-    (each_first (λ (i : ItemForm). group_faults true fields groups i.expression) (λ (i : ItemForm). expression_fault fields grouped clause.Select i.expression) (λ i. select_first fields t i.expression) t.items)
+    (each_first (λ (i : SelectItem). group_faults true fields groups i.expression) (λ (i : SelectItem). expression_fault fields grouped clause.Select i.expression) (λ i. select_first fields t i.expression) t.items)
     (headers_first (map header_text t.items))
     (clause_first fields grouped clause.Having (group_faults false fields groups) (having_first fields t) t.having_condition)
-    (each_first (λ (k : KeyForm). group_faults false fields groups (key_expression t.items k.expression)) (λ (k : KeyForm). expression_fault fields grouped clause.OrderBy (key_expression t.items k.expression)) (λ k. order_first fields t (key_expression t.items k.expression)) t.keys)
+    (each_first (λ (k : SortKey). group_faults false fields groups (key_expression t.items k.expression)) (λ (k : SortKey). expression_fault fields grouped clause.OrderBy (key_expression t.items k.expression)) (λ k. order_first fields t (key_expression t.items k.expression)) t.keys)
     (limit_first 64 (length (functions_of fields t)))
 
 -- ---- laws
@@ -338,12 +338,12 @@ nothing_first [] h = refl
 nothing_first (x ∷ xs) h = absurd cc
 
 -- A query has no fault exactly where it is typed.
-pub faultless_is_typed : (fields : List Field) (t : TreeForm) → query_faults fields t ≡ [] ↔ IsTyped fields t
+pub faultless_is_typed : (fields : List Field) (t : Query) → query_faults fields t ≡ [] ↔ IsTyped fields t
 faultless_is_typed fields t = (
   λ h. typed_from_none fields t (sym (first_of_faults fields t) ∙ ap first h),
   λ typed. nothing_first (query_faults fields t) (first_of_faults fields t ∙ none_from_typed fields t typed),
 )
 
 -- The fault that is told stands in the query.
-pub told_stands : (fields : List Field) (t : TreeForm) (f : QueryFault) → slice_get (query_faults fields t) 0 ≡ Some f → IsViolation fields t f
+pub told_stands : (fields : List Field) (t : Query) (f : QueryFault) → slice_get (query_faults fields t) 0 ≡ Some f → IsViolation fields t f
 told_stands fields t f h = first_stands fields t f (sym (first_of_faults fields t) ∙ h)

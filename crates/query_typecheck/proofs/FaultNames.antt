@@ -6,7 +6,7 @@ use Rattle.std.proofs.lemmas.Bool.Decides.{nat_tests}
 use Rattle.std.proofs.lemmas.List.Quantifiers.{position-Some}
 use Rattle.std.proofs.lemmas.Slice.Eq.{bytes_eq-Decides}
 use Rattle.semantics.specs.Columns.{Field, names_of}
-use Rattle.semantics.specs.Syntax.{TreeForm}
+use Rattle.semantics.specs.Syntax.{Query}
 use Rattle.semantics.specs.Names.{place_of, places_of}
 use Rattle.semantics.specs.Sets.{grouping_names, grouping_places}
 use Rattle.query_resolve.proofs.Distinct.{any_distinct, same_place}
@@ -45,7 +45,7 @@ among_names fields n place at (m ∷ ms) =
     ∙ ap (λ (t : Bool). bytes_eq n m || t) (among_names fields n place at ms)
 
 -- A place is one of a grouping column exactly where its name is among those in GROUP BY.
-pub among_groups : (fields : List Field) (t : TreeForm) (n : List ℕ) (place : ℕ) → place_of fields n ≡ Some place → list_any (λ g. g == place) (grouping_places fields t) ≡ list_any (bytes_eq n) (grouping_names t)
+pub among_groups : (fields : List Field) (t : Query) (n : List ℕ) (place : ℕ) → place_of fields n ≡ Some place → list_any (λ g. g == place) (grouping_places fields t) ≡ list_any (bytes_eq n) (grouping_names t)
 among_groups fields t n place at =
     any_distinct (λ a b. a == b) (λ a b e. grind (arith, nat_tests)) place (places_of fields (grouping_names t))
     ∙ among_names fields n place at (grouping_names t)

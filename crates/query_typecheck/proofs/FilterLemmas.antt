@@ -8,7 +8,7 @@ use Rattle.std.proofs.lemmas.List.Elements.{All-from_recursion, recursion_from_A
 use Rattle.std.proofs.lemmas.List.Folds.{find_at}
 use Rattle.std.proofs.lemmas.Option.{slice_get_past}
 use Rattle.semantics.specs.Columns.{Field}
-use Rattle.semantics.specs.Syntax.{ExpressionForm, FunctionForm, OperandForm, PredicateForm, PredicateForms, ItemForm, KeyForm, TreeForm, name, grouping, function, over_all, over_filtered, expression, literal, or_of, and_of, not_of, truth_test, compare, between, member, null_test, column, no_parts, part}
+use Rattle.semantics.specs.Syntax.{Expression, SetFunction, Operand, Predicate, Predicates, SelectItem, SortKey, Query, name, grouping, function, over_all, over_filtered, expression, literal, or_of, and_of, not_of, truth_test, compare, between, member, null_test, column, no_parts, part}
 use Rattle.semantics.specs.declared.function.ColumnFunction.{ColumnFunction}
 use Rattle.query_typecheck.specs.declared.scope.Clause.{Clause}
 use Rattle.query_typecheck.specs.declared.scope.Clause.TheVariants as clause
@@ -51,24 +51,24 @@ each_distinct P same (x ∷ xs) h = (h.0, each_kept P (λ y. not (same x y)) (di
 -- ---- typed filters
 
 -- The filter of a set function is typed as WHERE is, where it has one.
-abbrev HasTypedFilter : List Field → FunctionForm → Type 0
+abbrev HasTypedFilter : List Field → SetFunction → Type 0
 HasTypedFilter fields f = IsTypedClause fields [] clause.Where (filter_of f)
 
-typed_function : (fields : List Field) (c : Clause) (f : FunctionForm) → IsTypedFunction fields c f → HasTypedFilter fields f
+typed_function : (fields : List Field) (c : Clause) (f : SetFunction) → IsTypedFunction fields c f → HasTypedFilter fields f
 typed_function fields c (over_all a) h = tt
 typed_function fields c (over_filtered a p) h = h.2
 
-typed_expression : (fields : List Field) (grouped : List ℕ) (c : Clause) (e : ExpressionForm) → IsTypedExpression fields grouped c e → AllByRecursion (HasTypedFilter fields) (expression_functions e)
+typed_expression : (fields : List Field) (grouped : List ℕ) (c : Clause) (e : Expression) → IsTypedExpression fields grouped c e → AllByRecursion (HasTypedFilter fields) (expression_functions e)
 typed_expression fields grouped c (name n) h = tt
 typed_expression fields grouped c (grouping ns) h = tt
 typed_expression fields grouped c (function f) h = (typed_function fields c f h, tt)
 
-typed_operand : (fields : List Field) (grouped : List ℕ) (c : Clause) (x : OperandForm) → IsTypedOperand fields grouped c x → AllByRecursion (HasTypedFilter fields) (operand_functions x)
+typed_operand : (fields : List Field) (grouped : List ℕ) (c : Clause) (x : Operand) → IsTypedOperand fields grouped c x → AllByRecursion (HasTypedFilter fields) (operand_functions x)
 typed_operand fields grouped c (expression e) h = typed_expression fields grouped c e h
 typed_operand fields grouped c (literal a) h = tt
 
 mutual
-  typed_predicate : (fields : List Field) (grouped : List ℕ) (c : Clause) (p : PredicateForm) → IsTypedPredicate fields grouped c p → AllByRecursion (HasTypedFilter fields) (predicate_functions p)
+  typed_predicate : (fields : List Field) (grouped : List ℕ) (c : Clause) (p : Predicate) → IsTypedPredicate fields grouped c p → AllByRecursion (HasTypedFilter fields) (predicate_functions p)
   typed_predicate fields grouped c (or_of ps) h = typed_parts fields grouped c ps h
   typed_predicate fields grouped c (and_of ps) h = typed_parts fields grouped c ps h
   typed_predicate fields grouped c (not_of p) h = typed_predicate fields grouped c p h
@@ -82,44 +82,44 @@ mutual
   typed_predicate fields grouped c (null_test x n) h = typed_operand fields grouped c x h
   typed_predicate fields grouped c (column n) h = tt
 
-  typed_parts : (fields : List Field) (grouped : List ℕ) (c : Clause) (ps : PredicateForms) → AreTypedParts fields grouped c ps → AllByRecursion (HasTypedFilter fields) (parts_functions ps)
+  typed_parts : (fields : List Field) (grouped : List ℕ) (c : Clause) (ps : Predicates) → AreTypedParts fields grouped c ps → AllByRecursion (HasTypedFilter fields) (parts_functions ps)
   typed_parts fields grouped c no_parts h = tt
   typed_parts fields grouped c (part p ps) h = each_append (HasTypedFilter fields) (predicate_functions p) (parts_functions ps) (typed_predicate fields grouped c p h.0) (typed_parts fields grouped c ps h.1)
 
-typed_clause : (fields : List Field) (grouped : List ℕ) (c : Clause) (o : Option PredicateForm) → IsTypedClause fields grouped c o → AllByRecursion (HasTypedFilter fields) (option_map_or predicate_functions o [])
+typed_clause : (fields : List Field) (grouped : List ℕ) (c : Clause) (o : Option Predicate) → IsTypedClause fields grouped c o → AllByRecursion (HasTypedFilter fields) (option_map_or predicate_functions o [])
 typed_clause fields grouped c None h = tt
 typed_clause fields grouped c (Some p) h = typed_predicate fields grouped c p h
 
-typed_key : (fields : List Field) (grouped : List ℕ) (items : List ItemForm) (e : ExpressionForm) → IsTypedExpression fields grouped clause.OrderBy (key_expression items e) → AllByRecursion (HasTypedFilter fields) (expression_functions e)
+typed_key : (fields : List Field) (grouped : List ℕ) (items : List SelectItem) (e : Expression) → IsTypedExpression fields grouped clause.OrderBy (key_expression items e) → AllByRecursion (HasTypedFilter fields) (expression_functions e)
 typed_key fields grouped items (name n) h = tt
 typed_key fields grouped items (grouping ns) h = tt
 typed_key fields grouped items (function f) h = (typed_function fields clause.OrderBy f h, tt)
 
 -- The set functions of a typed query have typed filters.
-typed_functions : (fields : List Field) (t : TreeForm) → IsTyped fields t → AllByRecursion (HasTypedFilter fields) (set_functions t)
+typed_functions : (fields : List Field) (t : Query) → IsTyped fields t → AllByRecursion (HasTypedFilter fields) (set_functions t)
 typed_functions fields t h =
     let grouped = grouping_places fields t in
     let P = HasTypedFilter fields in
-    let Q : ItemForm → Type 0 = λ i. IsTypedExpression fields grouped clause.Select i.expression in
-    let R : KeyForm → Type 0 = λ k. IsTypedExpression fields grouped clause.OrderBy (key_expression t.items k.expression) in
+    let Q : SelectItem → Type 0 = λ i. IsTypedExpression fields grouped clause.Select i.expression in
+    let R : SortKey → Type 0 = λ k. IsTypedExpression fields grouped clause.OrderBy (key_expression t.items k.expression) in
     subst (AllByRecursion P) (collected t)
     (each_append P (flat_map (λ i. expression_functions i.expression) t.items ++ option_map_or predicate_functions t.having_condition []) (flat_map (λ k. expression_functions k.expression) t.keys)
     (each_append P (flat_map (λ i. expression_functions i.expression) t.items) (option_map_or predicate_functions t.having_condition [])
-    (each_flat P Q (λ (i : ItemForm). expression_functions i.expression) (λ i k. typed_expression fields grouped clause.Select i.expression k) t.items (recursion_from_All Q t.items h.items))
+    (each_flat P Q (λ (i : SelectItem). expression_functions i.expression) (λ i k. typed_expression fields grouped clause.Select i.expression k) t.items (recursion_from_All Q t.items h.items))
     (typed_clause fields grouped clause.Having t.having_condition h.having_condition))
-    (each_flat P R (λ (k : KeyForm). expression_functions k.expression) (λ k e. typed_key fields grouped t.items k.expression e) t.keys (recursion_from_All R t.keys h.keys)))
+    (each_flat P R (λ (k : SortKey). expression_functions k.expression) (λ k e. typed_key fields grouped t.items k.expression e) t.keys (recursion_from_All R t.keys h.keys)))
 
 -- A planned set function has the filter of the one that it is made of.
-planned_one : (fields : List Field) (o : Option ColumnFunction) (q : Option PredicateForm) (fs : List PlannedFunction) → IsTypedClause fields [] clause.Where q → AllByRecursion (λ (f : PlannedFunction). IsTypedClause fields [] clause.Where f.filter) fs → AllByRecursion (λ (f : PlannedFunction). IsTypedClause fields [] clause.Where f.filter) (cons_option (option_map (λ g. record { function = g; filter = q }) o) fs)
+planned_one : (fields : List Field) (o : Option ColumnFunction) (q : Option Predicate) (fs : List PlannedFunction) → IsTypedClause fields [] clause.Where q → AllByRecursion (λ (f : PlannedFunction). IsTypedClause fields [] clause.Where f.filter) fs → AllByRecursion (λ (f : PlannedFunction). IsTypedClause fields [] clause.Where f.filter) (cons_option (option_map (λ g. record { function = g; filter = q }) o) fs)
 planned_one fields None q fs h k = k
 planned_one fields (Some g) q fs h k = (h, k)
 
-planned_each : (fields : List Field) (fs : List FunctionForm) → AllByRecursion (HasTypedFilter fields) fs → AllByRecursion (λ (f : PlannedFunction). IsTypedClause fields [] clause.Where f.filter) (filter_map (planned_function fields) fs)
+planned_each : (fields : List Field) (fs : List SetFunction) → AllByRecursion (HasTypedFilter fields) fs → AllByRecursion (λ (f : PlannedFunction). IsTypedClause fields [] clause.Where f.filter) (filter_map (planned_function fields) fs)
 planned_each fields [] h = tt
 planned_each fields (f ∷ fs) h = planned_one fields (column_function fields (aggregate_of f)) (filter_of f) (filter_map (planned_function fields) fs) h.0 (planned_each fields fs h.1)
 
 -- The filters that there are.
-filters_one : (fields : List Field) (o : Option PredicateForm) (ps : List PredicateForm) → IsTypedClause fields [] clause.Where o → AllByRecursion (IsTypedPredicate fields [] clause.Where) ps → AllByRecursion (IsTypedPredicate fields [] clause.Where) (cons_option o ps)
+filters_one : (fields : List Field) (o : Option Predicate) (ps : List Predicate) → IsTypedClause fields [] clause.Where o → AllByRecursion (IsTypedPredicate fields [] clause.Where) ps → AllByRecursion (IsTypedPredicate fields [] clause.Where) (cons_option o ps)
 filters_one fields None ps h k = k
 filters_one fields (Some p) ps h k = (h, k)
 
@@ -128,7 +128,7 @@ filters_each fields [] h = tt
 filters_each fields (f ∷ fs) h = filters_one fields f.filter (filter_map (λ (f : PlannedFunction). f.filter) fs) h.0 (filters_each fields fs h.1)
 
 -- Each filter of a typed query is typed as WHERE is.
-pub typed_filters : (fields : List Field) (t : TreeForm) → IsTyped fields t → AreTypedFilters fields t
+pub typed_filters : (fields : List Field) (t : Query) → IsTyped fields t → AreTypedFilters fields t
 typed_filters fields t h =
     let P : PlannedFunction → Type 0 = λ f. IsTypedClause fields [] clause.Where f.filter in
     let planned = each_distinct P same_planned (filter_map (planned_function fields) (set_functions t)) (planned_each fields (set_functions t) (typed_functions fields t h)) in
@@ -138,12 +138,12 @@ typed_filters fields t h =
 -- ---- indexes
 
 -- A filter is among others, where there is one.
-abbrev IsAmong : List PredicateForm → Option PredicateForm → Type 0
+abbrev IsAmong : List Predicate → Option Predicate → Type 0
 IsAmong filters None = ⊤
 IsAmong filters (Some p) = list_any (λ q. same_predicate q p) filters ≡ true
 
 -- What is among some filters is found there.
-found_itself : (p : PredicateForm) (filters : List PredicateForm) → list_any (λ q. same_predicate q p) filters ≡ true → find (same_predicate p) filters ≡ Some p
+found_itself : (p : Predicate) (filters : List Predicate) → list_any (λ q. same_predicate q p) filters ≡ true → find (same_predicate p) filters ≡ Some p
 found_itself p [] h = absurd cc
 found_itself p (q ∷ qs) h =
     elim (same_predicate p q) as (λ (b : Bool). same_predicate p q ≡ b → cond b (Some q) (find (same_predicate p) qs) ≡ Some p) [
@@ -164,36 +164,36 @@ at_position {A} test xs =
     ] refl
 
 -- The index of a filter that is among others leads to it.
-leads_back : (filters : List PredicateForm) (o : Option PredicateForm) → IsAmong filters o → option_and_then (slice_get filters) (option_and_then (λ p. position (same_predicate p) filters) o) ≡ o
+leads_back : (filters : List Predicate) (o : Option Predicate) → IsAmong filters o → option_and_then (slice_get filters) (option_and_then (λ p. position (same_predicate p) filters) o) ≡ o
 leads_back filters None h = refl
 leads_back filters (Some p) h = at_position (same_predicate p) filters ∙ found_itself p filters h
 
 -- Where the filters of some functions are among others, their indexes lead to them.
-all_lead_back : (filters : List PredicateForm) (fs : List PlannedFunction) → AllByRecursion (λ (f : PlannedFunction). IsAmong filters f.filter) fs → filters_at filters (map (indexed_function filters) fs) ≡ map (λ (f : PlannedFunction). f.filter) fs
+all_lead_back : (filters : List Predicate) (fs : List PlannedFunction) → AllByRecursion (λ (f : PlannedFunction). IsAmong filters f.filter) fs → filters_at filters (map (indexed_function filters) fs) ≡ map (λ (f : PlannedFunction). f.filter) fs
 all_lead_back filters [] h = refl
 all_lead_back filters (f ∷ fs) h =
     let rest = filters_at filters (map (indexed_function filters) fs) in
-    ap (λ (o : Option PredicateForm). o ∷ rest) (leads_back filters f.filter h.0) ∙ ap (λ (os : List (Option PredicateForm)). f.filter ∷ os) (all_lead_back filters fs h.1)
+    ap (λ (o : Option Predicate). o ∷ rest) (leads_back filters f.filter h.0) ∙ ap (λ (os : List (Option Predicate)). f.filter ∷ os) (all_lead_back filters fs h.1)
 
 -- What is among some is so behind one more.
-still_among : (p : PredicateForm) (o : Option PredicateForm) (qs : List PredicateForm) → list_any (λ q. same_predicate q p) qs ≡ true → list_any (λ q. same_predicate q p) (cons_option o qs) ≡ true
+still_among : (p : Predicate) (o : Option Predicate) (qs : List Predicate) → list_any (λ q. same_predicate q p) qs ≡ true → list_any (λ q. same_predicate q p) (cons_option o qs) ≡ true
 still_among p None qs h = h
 still_among p (Some r) qs h = rw h (or_true (same_predicate r p))
 
 -- The first is among them.
-first_among : (all : List PredicateForm) (o : Option PredicateForm) (qs : List PredicateForm) → ((p : PredicateForm) → list_any (λ q. same_predicate q p) (cons_option o qs) ≡ true → list_any (λ q. same_predicate q p) all ≡ true) → IsAmong all o
+first_among : (all : List Predicate) (o : Option Predicate) (qs : List Predicate) → ((p : Predicate) → list_any (λ q. same_predicate q p) (cons_option o qs) ≡ true → list_any (λ q. same_predicate q p) all ≡ true) → IsAmong all o
 first_among all None qs inside = tt
 first_among all (Some r) qs inside = inside r (let e = predicate_itself r in rw e refl)
 
 -- Filters that are among others, function by function.
-each_among : (all : List PredicateForm) (fs : List PlannedFunction) → ((p : PredicateForm) → list_any (λ q. same_predicate q p) (filter_map (λ (f : PlannedFunction). f.filter) fs) ≡ true → list_any (λ q. same_predicate q p) all ≡ true) → AllByRecursion (λ (f : PlannedFunction). IsAmong all f.filter) fs
+each_among : (all : List Predicate) (fs : List PlannedFunction) → ((p : Predicate) → list_any (λ q. same_predicate q p) (filter_map (λ (f : PlannedFunction). f.filter) fs) ≡ true → list_any (λ q. same_predicate q p) all ≡ true) → AllByRecursion (λ (f : PlannedFunction). IsAmong all f.filter) fs
 each_among all [] inside = tt
 each_among all (f ∷ fs) inside =
     let rest = filter_map (λ (f : PlannedFunction). f.filter) fs in
     (first_among all f.filter rest inside, each_among all fs (λ p h. inside p (still_among p f.filter rest h)))
 
 -- The index of each set function of a query leads to its filter.
-pub indexes_lead_back : (fields : List Field) (t : TreeForm) → LeadBack fields t
+pub indexes_lead_back : (fields : List Field) (t : Query) → LeadBack fields t
 indexes_lead_back fields t =
     let fs = functions_of fields t in
     all_lead_back (different_filters fs) fs

@@ -5,7 +5,7 @@ use Rattle.std.specs.Option.{option_or}
 use Rattle.std.proofs.lemmas.List.Elements.{All-nil, All-cons, All-head, All-tail}
 use Rattle.semantics.specs.declared.kind.Kind.{Kind}
 use Rattle.semantics.specs.Columns.{Field}
-use Rattle.semantics.specs.Syntax.{ItemForm, KeyForm, TreeForm}
+use Rattle.semantics.specs.Syntax.{SelectItem, SortKey, Query}
 use Rattle.semantics.specs.Canonical.{header_text}
 use Rattle.semantics.specs.declared.query_fault.QueryFault.{QueryFault}
 use Rattle.semantics.specs.Sets.{expansion, grouping_names, grouping_places}
@@ -64,19 +64,19 @@ in_a_row None None None None None None None (Some f) = refl
 in_a_row None None None None None None None None = refl
 
 -- The first fault of the clauses, as they are tested, is that of the query.
-clauses_in_order : (fields : List Field) (t : TreeForm) → clauses_fault fields (grouping_places fields t) t ≡ query_fault fields t
+clauses_in_order : (fields : List Field) (t : Query) → clauses_fault fields (grouping_places fields t) t ≡ query_fault fields t
 unfolding clauses_fault records_fault select_fault rows_fault tests_of
 clauses_in_order fields t =
     let grouped = grouping_places fields t in
     in_a_row (clause_fault fields grouped clause.Where t.where_condition)
     (first_fault (column_fault fields) (grouping_names t))
     (limit_fault 256 (length (expansion t.groups)))
-    (first_fault (λ (i : ItemForm). expression_fault fields grouped clause.Select i.expression) t.items)
+    (first_fault (λ (i : SelectItem). expression_fault fields grouped clause.Select i.expression) t.items)
     (headers_fault (map header_text t.items))
     (clause_fault fields grouped clause.Having t.having_condition)
-    (first_fault (λ (k : KeyForm). expression_fault fields grouped clause.OrderBy (key_expression t.items k.expression)) t.keys)
+    (first_fault (λ (k : SortKey). expression_fault fields grouped clause.OrderBy (key_expression t.items k.expression)) t.keys)
     (limit_fault 64 (length (functions_of fields t)))
 
 -- So an answer to the clauses is one to the query.
-pub answers_query : {X : Type 0} (fields : List Field) (t : TreeForm) (r : Result X QueryFault) → Answers r (clauses_fault fields (grouping_places fields t) t) → Answers r (query_fault fields t)
+pub answers_query : {X : Type 0} (fields : List Field) (t : Query) (r : Result X QueryFault) → Answers r (clauses_fault fields (grouping_places fields t) t) → Answers r (query_fault fields t)
 answers_query fields t r h = subst (Answers r) (clauses_in_order fields t) h

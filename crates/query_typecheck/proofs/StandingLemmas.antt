@@ -10,7 +10,7 @@ use Rattle.std.proofs.lemmas.List.Elements.{Contains-append_right}
 use Rattle.semantics.specs.declared.kind.Kind.{Kind}
 use Rattle.semantics.specs.Columns.{Field, names_of}
 use Rattle.semantics.specs.declared.aggregate.Aggregate.{Aggregate}
-use Rattle.semantics.specs.Syntax.{ExpressionForm, FunctionForm, PredicateForm, TreeForm, name, grouping, function, over_all, over_filtered}
+use Rattle.semantics.specs.Syntax.{Expression, SetFunction, Predicate, Query, name, grouping, function, over_all, over_filtered}
 use Rattle.semantics.specs.declared.query_fault.QueryFault.{QueryFault}
 use Rattle.semantics.specs.declared.query_fault.QueryFault.TheVariants.{UnknownColumn, TypesDisagree, NotGrouped, FunctionNotAllowed}
 use Rattle.query_typecheck.specs.declared.scope.Clause.{Clause}
@@ -110,13 +110,13 @@ place_met fields (m ∷ ms) n place at (suc k, below, e) =
     any_behind (λ g. g == place) (place_of fields m) (places_of fields ms) (place_met fields ms n place at (k, omega arith, e))
 
 -- The places of grouping columns are those of the names in GROUP BY.
-grouping_met : (fields : List Field) (t : TreeForm) (n : List ℕ) (place : ℕ) → place_of fields n ≡ Some place → Contains (grouping_names t) n → list_any (λ g. g == place) (grouping_places fields t) ≡ true
+grouping_met : (fields : List Field) (t : Query) (n : List ℕ) (place : ℕ) → place_of fields n ≡ Some place → Contains (grouping_names t) n → list_any (λ g. g == place) (grouping_places fields t) ≡ true
 grouping_met fields t n place at h = any_distinct (λ a b. a == b) (λ a b e. grind (arith, nat_tests)) place (places_of fields (grouping_names t)) ∙ place_met fields (grouping_names t) n place at h
 
 -- ---- names
 
 -- A name without a column is unknown, where it is asked for.
-pub column_stands : (fields : List Field) (t : TreeForm) (n : List ℕ) (f : QueryFault) → Contains (grouping_names t) n ⊎ ((c : Clause) × (e : ExpressionForm) × StandsIn t c e × Contains (names e) n) → column_fault fields n ≡ Some f → IsViolation fields t f
+pub column_stands : (fields : List Field) (t : Query) (n : List ℕ) (f : QueryFault) → Contains (grouping_names t) n ⊎ ((c : Clause) × (e : Expression) × StandsIn t c e × Contains (names e) n) → column_fault fields n ≡ Some f → IsViolation fields t f
 column_stands fields t n f asked h =
     let k = fails (is_some (place_of fields n)) (UnknownColumn n) f h in
     subst (IsViolation fields t) k.1 (asked, λ is. let wrong : true ≡ false = sym is ∙ k.0 in let clash : ⊥ = cc in clash)
@@ -127,7 +127,7 @@ grouped_cases grouped n None f h = inl (refl, cc)
 grouped_cases grouped n (Some place) f h = let k = fails (list_any (λ g. g == place) grouped) (NotGrouped n) f h in inr (place, refl, k.0, k.1)
 
 -- A name that is to be a grouping column, and is none.
-grouped_stands : (fields : List Field) (t : TreeForm) (c : Clause) (e : ExpressionForm) (n : List ℕ) (f : QueryFault) → StandsIn t c e → c ≢ clause.Where → Contains (outer_names e) n → Contains (names e) n → grouped_fault fields (grouping_places fields t) n ≡ Some f → IsViolation fields t f
+grouped_stands : (fields : List Field) (t : Query) (c : Clause) (e : Expression) (n : List ℕ) (f : QueryFault) → StandsIn t c e → c ≢ clause.Where → Contains (outer_names e) n → Contains (names e) n → grouped_fault fields (grouping_places fields t) n ≡ Some f → IsViolation fields t f
 grouped_stands fields t c e n f at behind outer among h =
     elim (grouped_cases (grouping_places fields t) n (place_of fields n) f h) [
       | inl none ↦ subst (IsViolation fields t) none.1 (inr (c, e, at, among), λ is. let wrong : is_some (place_of fields n) ≡ false = rw none.0 refl in let clash : ⊥ = cc in clash)
@@ -147,20 +147,20 @@ order_other : clause.OrderBy ≢ clause.Where
 order_other e = let clash : ⊥ = cc in clash
 
 -- A name that may not stand in its clause.
-pub name_stands : (fields : List Field) (t : TreeForm) (c : Clause) (n : List ℕ) (f : QueryFault) → StandsIn t c (name n) → name_fault fields (grouping_places fields t) c n ≡ Some f → IsViolation fields t f
+pub name_stands : (fields : List Field) (t : Query) (c : Clause) (n : List ℕ) (f : QueryFault) → StandsIn t c (name n) → name_fault fields (grouping_places fields t) c n ≡ Some f → IsViolation fields t f
 name_stands fields t clause.Where n f at h = column_stands fields t n f (inr (clause.Where, name n, at, (0, omega arith, refl))) h
 name_stands fields t clause.Select n f at h = grouped_stands fields t clause.Select (name n) n f at select_other (0, omega arith, refl) (0, omega arith, refl) h
 name_stands fields t clause.Having n f at h = grouped_stands fields t clause.Having (name n) n f at having_other (0, omega arith, refl) (0, omega arith, refl) h
 name_stands fields t clause.OrderBy n f at h = grouped_stands fields t clause.OrderBy (name n) n f at order_other (0, omega arith, refl) (0, omega arith, refl) h
 
 -- Arguments of GROUPING that may not stand there.
-all_grouped_stand : (fields : List Field) (t : TreeForm) (c : Clause) (ns : List (List ℕ)) (f : QueryFault) → StandsIn t c (grouping ns) → c ≢ clause.Where → first_fault (grouped_fault fields (grouping_places fields t)) ns ≡ Some f → IsViolation fields t f
+all_grouped_stand : (fields : List Field) (t : Query) (c : Clause) (ns : List (List ℕ)) (f : QueryFault) → StandsIn t c (grouping ns) → c ≢ clause.Where → first_fault (grouped_fault fields (grouping_places fields t)) ns ≡ Some f → IsViolation fields t f
 all_grouped_stand fields t c ns f at behind h =
     let found = first_at (grouped_fault fields (grouping_places fields t)) ns f h in
     grouped_stands fields t c (grouping ns) found.0 f at behind found.1 found.1 found.2
 
 -- A GROUPING that may not stand in its clause, or whose arguments may not.
-grouping_stands : (fields : List Field) (t : TreeForm) (c : Clause) (ns : List (List ℕ)) (f : QueryFault) → StandsIn t c (grouping ns) → grouping_fault fields (grouping_places fields t) c ns ≡ Some f → IsViolation fields t f
+grouping_stands : (fields : List Field) (t : Query) (c : Clause) (ns : List (List ℕ)) (f : QueryFault) → StandsIn t c (grouping ns) → grouping_fault fields (grouping_places fields t) c ns ≡ Some f → IsViolation fields t f
 grouping_stands fields t clause.Where ns f at h = let same : FunctionNotAllowed ≡ f = cc in subst (IsViolation fields t) same (clause.Where, grouping ns, at, refl)
 grouping_stands fields t clause.Select ns f at h = all_grouped_stand fields t clause.Select ns f at select_other h
 grouping_stands fields t clause.Having ns f at h = all_grouped_stand fields t clause.Having ns f at having_other h
@@ -176,7 +176,7 @@ kind_fails fields kinds x f is h =
     (has.0, has.1, λ among. let found = test_from_among kinds has.0 among in let not_found = k.0 in let clash : ⊥ = cc in clash, k.1)
 
 -- A set function that does not take its column, where a name without a column stands, and a column of another type.
-argument_stands : (fields : List Field) (t : TreeForm) (a : Aggregate) (f : QueryFault) → ((x : List ℕ) → Contains (argument_names a) x → column_fault fields x ≡ Some f → IsViolation fields t f) → (IsOfOtherKind fields a → TypesDisagree ≡ f → IsViolation fields t f) → aggregate_fault fields a ≡ Some f → IsViolation fields t f
+argument_stands : (fields : List Field) (t : Query) (a : Aggregate) (f : QueryFault) → ((x : List ℕ) → Contains (argument_names a) x → column_fault fields x ≡ Some f → IsViolation fields t f) → (IsOfOtherKind fields a → TypesDisagree ≡ f → IsViolation fields t f) → aggregate_fault fields a ≡ Some f → IsViolation fields t f
 argument_stands fields t a f unknown other h =
     let found = first_at (argument_fault fields (takes a)) (argument_names a) f h in
     either (column_fault fields found.0) _ f (IsViolation fields t f) (unknown found.0 found.1)
@@ -186,7 +186,7 @@ argument_stands fields t a f unknown other h =
     found.2
 
 -- A set function that stands in a clause and does not take its column.
-aggregate_stands : (fields : List Field) (t : TreeForm) (c : Clause) (g : FunctionForm) (f : QueryFault) → StandsIn t c (function g) → aggregate_fault fields (aggregate_of g) ≡ Some f → IsViolation fields t f
+aggregate_stands : (fields : List Field) (t : Query) (c : Clause) (g : SetFunction) (f : QueryFault) → StandsIn t c (function g) → aggregate_fault fields (aggregate_of g) ≡ Some f → IsViolation fields t f
 aggregate_stands fields t c g f at h =
     argument_stands fields t (aggregate_of g) f (λ x among k. column_stands fields t x f (inr (c, function g, at, among)) k)
     (λ other same. subst (IsViolation fields t) same (inr (c, g, at, other)))
@@ -205,22 +205,22 @@ not_where clause.Having a h e = having_other e
 not_where clause.OrderBy a h e = order_other e
 
 -- A set function that may stand where it stands is written there, outside of each FILTER.
-is_written : (t : TreeForm) (c : Clause) (a : Aggregate) (e : ExpressionForm) → may_stand c a ≡ true → StandsIn t c e → IsWrittenIn t c e
+is_written : (t : Query) (c : Clause) (a : Aggregate) (e : Expression) → may_stand c a ≡ true → StandsIn t c e → IsWrittenIn t c e
 is_written t clause.Where a e may at = absurd cc
 is_written t clause.Select a e may at = at
 is_written t clause.Having a e may at = at
 is_written t clause.OrderBy a e may at = at
 
 -- The fault of each FILTER in a query stands in the query.
-abbrev pub FiltersStand : List Field → TreeForm → QueryFault → Type 0
-FiltersStand fields t f = (p : PredicateForm) → IsFilterIn t p → predicate_fault fields [] clause.Where p ≡ Some f → IsViolation fields t f
+abbrev pub FiltersStand : List Field → Query → QueryFault → Type 0
+FiltersStand fields t f = (p : Predicate) → IsFilterIn t p → predicate_fault fields [] clause.Where p ≡ Some f → IsViolation fields t f
 
 -- A set function that may not stand.
-misplaced_stands : (fields : List Field) (t : TreeForm) (c : Clause) (g : FunctionForm) (f : QueryFault) → StandsIn t c (function g) → may_stand c (aggregate_of g) ≡ false → FunctionNotAllowed ≡ f → IsViolation fields t f
+misplaced_stands : (fields : List Field) (t : Query) (c : Clause) (g : SetFunction) (f : QueryFault) → StandsIn t c (function g) → may_stand c (aggregate_of g) ≡ false → FunctionNotAllowed ≡ f → IsViolation fields t f
 misplaced_stands fields t c g f at may_not same = subst (IsViolation fields t) same (c, function g, at, may_not)
 
 -- A set function that may not stand in its clause, does not take its column, or has a FILTER with a fault.
-function_stands : (fields : List Field) (t : TreeForm) (c : Clause) (g : FunctionForm) (f : QueryFault) → (c ≢ clause.Where → FiltersStand fields t f) → StandsIn t c (function g) → function_fault fields c g ≡ Some f → IsViolation fields t f
+function_stands : (fields : List Field) (t : Query) (c : Clause) (g : SetFunction) (f : QueryFault) → (c ≢ clause.Where → FiltersStand fields t f) → StandsIn t c (function g) → function_fault fields c g ≡ Some f → IsViolation fields t f
 function_stands fields t c (over_all a) f deeper at h =
     elim (chosen_cases (may_stand c a) (aggregate_fault fields a) FunctionNotAllowed f h) [
       | inl may ↦ aggregate_stands fields t c (over_all a) f at may.1
@@ -238,7 +238,7 @@ function_stands fields t c (over_filtered a p) f deeper at h =
 -- ---- expressions
 
 -- An expression with a fault, wherever it stands.
-pub expression_stands : (fields : List Field) (t : TreeForm) (c : Clause) (e : ExpressionForm) (f : QueryFault) → (c ≢ clause.Where → FiltersStand fields t f) → StandsIn t c e → expression_fault fields (grouping_places fields t) c e ≡ Some f → IsViolation fields t f
+pub expression_stands : (fields : List Field) (t : Query) (c : Clause) (e : Expression) (f : QueryFault) → (c ≢ clause.Where → FiltersStand fields t f) → StandsIn t c e → expression_fault fields (grouping_places fields t) c e ≡ Some f → IsViolation fields t f
 expression_stands fields t c (name n) f deeper at h = name_stands fields t c n f at h
 expression_stands fields t c (grouping ns) f deeper at h = grouping_stands fields t c ns f at h
 expression_stands fields t c (function g) f deeper at h = function_stands fields t c g f deeper at h

@@ -15,7 +15,7 @@ use Rattle.semantics.specs.Columns.{Field}
 use Rattle.semantics.specs.declared.aggregate.Aggregate.{Aggregate}
 use Rattle.semantics.specs.declared.aggregate.Aggregate.TheVariants as aggregate
 use Rattle.semantics.specs.declared.literal.Literal.{Literal}
-use Rattle.semantics.specs.Syntax.{ExpressionForm, OperandForm, PredicateForm, PredicateForms, ItemForm, KeyForm, TreeForm, name, grouping, function, over_all, over_filtered, expression, literal, or_of, and_of, not_of, truth_test, compare, between, member, null_test, column, no_parts, part}
+use Rattle.semantics.specs.Syntax.{Expression, Operand, Predicate, Predicates, SelectItem, SortKey, Query, name, grouping, function, over_all, over_filtered, expression, literal, or_of, and_of, not_of, truth_test, compare, between, member, null_test, column, no_parts, part}
 use Rattle.semantics.specs.Canonical.{header_text}
 use Rattle.semantics.specs.declared.query_fault.QueryFault.{QueryFault}
 use Rattle.semantics.specs.declared.query_fault.QueryFault.TheVariants.{TypesDisagree, OverLimit, RepeatedHeader, OutOfMemory}
@@ -35,19 +35,19 @@ use Rattle.query_typecheck.proofs.StandingLemmas.{FiltersStand, column_has_kind,
 -- ---- operands
 
 -- An expression among the operands of an atom in a clause stands in that clause.
-in_atom : (t : TreeForm) (c : Clause) (p : PredicateForm) (e : ExpressionForm) → IsAtomIn t c p → Contains (operands p) (expression e) → StandsIn t c e
+in_atom : (t : Query) (c : Clause) (p : Predicate) (e : Expression) → IsAtomIn t c p → Contains (operands p) (expression e) → StandsIn t c e
 in_atom t clause.Where p e atom among = (p, atom, among)
 in_atom t clause.Select p e atom among = let below = atom.1 in absurd (omega arith)
 in_atom t clause.Having p e atom among = (p, atom, among)
 in_atom t clause.OrderBy p e atom among = let below = atom.1 in absurd (omega arith)
 
 -- An operand with a fault.
-operand_stands : (fields : List Field) (t : TreeForm) (c : Clause) (p : PredicateForm) (x : OperandForm) (f : QueryFault) → (c ≢ clause.Where → FiltersStand fields t f) → IsAtomIn t c p → Contains (operands p) x → operand_fault fields (grouping_places fields t) c x ≡ Some f → IsViolation fields t f
+operand_stands : (fields : List Field) (t : Query) (c : Clause) (p : Predicate) (x : Operand) (f : QueryFault) → (c ≢ clause.Where → FiltersStand fields t f) → IsAtomIn t c p → Contains (operands p) x → operand_fault fields (grouping_places fields t) c x ≡ Some f → IsViolation fields t f
 operand_stands fields t c p (expression e) f deeper atom among h = expression_stands fields t c e f deeper (in_atom t c p e atom among) h
 operand_stands fields t c p (literal a) f deeper atom among h = absurd cc
 
 -- Where atoms stand, AVG may not.
-no_average : (t : TreeForm) (c : Clause) (p : PredicateForm) (x : List ℕ) → IsAtomIn t c p → may_stand c (aggregate.Avg x) ≡ true → ⊥
+no_average : (t : Query) (c : Clause) (p : Predicate) (x : List ℕ) → IsAtomIn t c p → may_stand c (aggregate.Avg x) ≡ true → ⊥
 no_average t clause.Where p x atom may = absurd cc
 no_average t clause.Select p x atom may = let below = atom.1 in absurd (omega arith)
 no_average t clause.Having p x atom may = absurd cc
@@ -83,7 +83,7 @@ aggregate_has_kind fields c (aggregate.Max n) never may h =
 aggregate_has_kind fields c (aggregate.Avg n) never may h = absurd (never n may)
 
 -- A typed operand of an atom has a type.
-typed_has_kind : (fields : List Field) (grouped : List ℕ) (c : Clause) (x : OperandForm) → ((n : List ℕ) → may_stand c (aggregate.Avg n) ≡ true → ⊥) → IsTypedOperand fields grouped c x → IsSome (operand_kind fields x)
+typed_has_kind : (fields : List Field) (grouped : List ℕ) (c : Clause) (x : Operand) → ((n : List ℕ) → may_stand c (aggregate.Avg n) ≡ true → ⊥) → IsTypedOperand fields grouped c x → IsSome (operand_kind fields x)
 typed_has_kind fields grouped c (expression (name n)) never h = column_has_kind fields n (typed_is_column fields grouped c n h)
 typed_has_kind fields grouped c (expression (grouping ns)) never h = refl
 typed_has_kind fields grouped c (expression (function (over_all a))) never h = aggregate_has_kind fields c a never h.0 h.1
@@ -91,7 +91,7 @@ typed_has_kind fields grouped c (expression (function (over_filtered a p))) neve
 typed_has_kind fields grouped c (literal a) never h = refl
 
 -- An operand of an atom without a fault has a type.
-operand_has_kind : (fields : List Field) (t : TreeForm) (c : Clause) (p : PredicateForm) (x : OperandForm) → IsAtomIn t c p → operand_fault fields (grouping_places fields t) c x ≡ None → IsSome (operand_kind fields x)
+operand_has_kind : (fields : List Field) (t : Query) (c : Clause) (p : Predicate) (x : Operand) → IsAtomIn t c p → operand_fault fields (grouping_places fields t) c x ≡ None → IsSome (operand_kind fields x)
 operand_has_kind fields t c p x atom h = typed_has_kind fields (grouping_places fields t) c x (λ n. no_average t c p n atom) (operand_from_none fields (grouping_places fields t) c x h)
 
 -- ---- types
@@ -107,7 +107,7 @@ two_kinds (Some k) None f some_a some_b h = absurd cc
 two_kinds (Some k) (Some l) f some_a some_b h = let n = fails (same_kind k l) TypesDisagree f h in ((k, l, refl, refl, differ k l n.0), n.1)
 
 -- Two operands of an atom whose types do not agree.
-pair_stands : (fields : List Field) (t : TreeForm) (c : Clause) (p : PredicateForm) (x y : OperandForm) (f : QueryFault) → IsAtomIn t c p → (AreOfTwoKinds (operand_kind fields x) (operand_kind fields y) → Disagrees fields p) → operand_fault fields (grouping_places fields t) c x ≡ None → operand_fault fields (grouping_places fields t) c y ≡ None → agreement_fault (operand_kind fields x) (operand_kind fields y) ≡ Some f → IsViolation fields t f
+pair_stands : (fields : List Field) (t : Query) (c : Clause) (p : Predicate) (x y : Operand) (f : QueryFault) → IsAtomIn t c p → (AreOfTwoKinds (operand_kind fields x) (operand_kind fields y) → Disagrees fields p) → operand_fault fields (grouping_places fields t) c x ≡ None → operand_fault fields (grouping_places fields t) c y ≡ None → agreement_fault (operand_kind fields x) (operand_kind fields y) ≡ Some f → IsViolation fields t f
 pair_stands fields t c p x y f atom disagree fine_x fine_y h =
     let two = two_kinds (operand_kind fields x) (operand_kind fields y) f (operand_has_kind fields t c p x atom fine_x) (operand_has_kind fields t c p y atom fine_y) h in
     subst (IsViolation fields t) two.1 (inl (c, p, atom, disagree two.0))
@@ -115,7 +115,7 @@ pair_stands fields t c p x y f atom disagree fine_x fine_y h =
 -- ---- atoms
 
 -- A comparison with a fault.
-compare_stands : (fields : List Field) (t : TreeForm) (c : Clause) (p : PredicateForm) (x y : OperandForm) (f : QueryFault) → (c ≢ clause.Where → FiltersStand fields t f) → IsAtomIn t c p → Contains (operands p) x → Contains (operands p) y → (AreOfTwoKinds (operand_kind fields x) (operand_kind fields y) → Disagrees fields p) → option_or (operand_fault fields (grouping_places fields t) c x) (option_or (operand_fault fields (grouping_places fields t) c y) (agreement_fault (operand_kind fields x) (operand_kind fields y))) ≡ Some f → IsViolation fields t f
+compare_stands : (fields : List Field) (t : Query) (c : Clause) (p : Predicate) (x y : Operand) (f : QueryFault) → (c ≢ clause.Where → FiltersStand fields t f) → IsAtomIn t c p → Contains (operands p) x → Contains (operands p) y → (AreOfTwoKinds (operand_kind fields x) (operand_kind fields y) → Disagrees fields p) → option_or (operand_fault fields (grouping_places fields t) c x) (option_or (operand_fault fields (grouping_places fields t) c y) (agreement_fault (operand_kind fields x) (operand_kind fields y))) ≡ Some f → IsViolation fields t f
 compare_stands fields t c p x y f deeper atom in_x in_y disagree h =
     either (operand_fault fields (grouping_places fields t) c x) _ f (IsViolation fields t f)
     (λ k. operand_stands fields t c p x f deeper atom in_x k)
@@ -126,7 +126,7 @@ compare_stands fields t c p x y f deeper atom in_x in_y disagree h =
     h
 
 -- A BETWEEN with a fault.
-between_stands : (fields : List Field) (t : TreeForm) (c : Clause) (x : OperandForm) (n : Bool) (y z : OperandForm) (f : QueryFault) → (c ≢ clause.Where → FiltersStand fields t f) → IsAtomIn t c (between x n y z) → predicate_fault fields (grouping_places fields t) c (between x n y z) ≡ Some f → IsViolation fields t f
+between_stands : (fields : List Field) (t : Query) (c : Clause) (x : Operand) (n : Bool) (y z : Operand) (f : QueryFault) → (c ≢ clause.Where → FiltersStand fields t f) → IsAtomIn t c (between x n y z) → predicate_fault fields (grouping_places fields t) c (between x n y z) ≡ Some f → IsViolation fields t f
 between_stands fields t c x n y z f deeper atom h =
     let p = between x n y z in
     let in_x : Contains (operands p) x = (0, omega arith, refl) in
@@ -147,7 +147,7 @@ between_stands fields t c x n y z f deeper atom h =
     h
 
 -- An IN with a fault.
-member_stands : (fields : List Field) (t : TreeForm) (c : Clause) (x : OperandForm) (n : Bool) (ls : List Literal) (f : QueryFault) → (c ≢ clause.Where → FiltersStand fields t f) → IsAtomIn t c (member x n ls) → predicate_fault fields (grouping_places fields t) c (member x n ls) ≡ Some f → IsViolation fields t f
+member_stands : (fields : List Field) (t : Query) (c : Clause) (x : Operand) (n : Bool) (ls : List Literal) (f : QueryFault) → (c ≢ clause.Where → FiltersStand fields t f) → IsAtomIn t c (member x n ls) → predicate_fault fields (grouping_places fields t) c (member x n ls) ≡ Some f → IsViolation fields t f
 member_stands fields t c x n ls f deeper atom h =
     let p = member x n ls in
     let in_x : Contains (operands p) x = (0, omega arith, refl) in
@@ -160,7 +160,7 @@ member_stands fields t c x n ls f deeper atom h =
     h
 
 -- A name that stands alone, with a fault.
-truth_stands : (fields : List Field) (t : TreeForm) (c : Clause) (n : List ℕ) (f : QueryFault) → IsAtomIn t c (column n) → predicate_fault fields (grouping_places fields t) c (column n) ≡ Some f → IsViolation fields t f
+truth_stands : (fields : List Field) (t : Query) (c : Clause) (n : List ℕ) (f : QueryFault) → IsAtomIn t c (column n) → predicate_fault fields (grouping_places fields t) c (column n) ≡ Some f → IsViolation fields t f
 truth_stands fields t c n f atom h =
     either (name_fault fields (grouping_places fields t) c n) _ f (IsViolation fields t f)
     (λ k. name_stands fields t c n f (in_atom t c (column n) (name n) atom (0, omega arith, refl)) k)
@@ -173,7 +173,7 @@ truth_stands fields t c n f atom h =
 
 mutual
   -- A predicate with a fault, whose atoms stand in a clause.
-  predicate_stands : (fields : List Field) (t : TreeForm) (c : Clause) (p : PredicateForm) (f : QueryFault) → (c ≢ clause.Where → FiltersStand fields t f) → ((a : PredicateForm) → Contains (atoms p) a → IsAtomIn t c a) → predicate_fault fields (grouping_places fields t) c p ≡ Some f → IsViolation fields t f
+  predicate_stands : (fields : List Field) (t : Query) (c : Clause) (p : Predicate) (f : QueryFault) → (c ≢ clause.Where → FiltersStand fields t f) → ((a : Predicate) → Contains (atoms p) a → IsAtomIn t c a) → predicate_fault fields (grouping_places fields t) c p ≡ Some f → IsViolation fields t f
   predicate_stands fields t c (or_of ps) f deeper inside h = parts_stand fields t c ps f deeper inside h
   predicate_stands fields t c (and_of ps) f deeper inside h = parts_stand fields t c ps f deeper inside h
   predicate_stands fields t c (not_of p) f deeper inside h = predicate_stands fields t c p f deeper inside h
@@ -187,7 +187,7 @@ mutual
   predicate_stands fields t c (column n) f deeper inside h = truth_stands fields t c n f (inside (column n) (0, omega arith, refl)) h
 
   -- Parts with a fault, whose atoms stand in a clause.
-  parts_stand : (fields : List Field) (t : TreeForm) (c : Clause) (ps : PredicateForms) (f : QueryFault) → (c ≢ clause.Where → FiltersStand fields t f) → ((a : PredicateForm) → Contains (parts_atoms ps) a → IsAtomIn t c a) → parts_fault fields (grouping_places fields t) c ps ≡ Some f → IsViolation fields t f
+  parts_stand : (fields : List Field) (t : Query) (c : Clause) (ps : Predicates) (f : QueryFault) → (c ≢ clause.Where → FiltersStand fields t f) → ((a : Predicate) → Contains (parts_atoms ps) a → IsAtomIn t c a) → parts_fault fields (grouping_places fields t) c ps ≡ Some f → IsViolation fields t f
   parts_stand fields t c no_parts f deeper inside h = absurd cc
   parts_stand fields t c (part p ps) f deeper inside h =
       either (predicate_fault fields (grouping_places fields t) c p) (parts_fault fields (grouping_places fields t) c ps) f (IsViolation fields t f)
@@ -198,7 +198,7 @@ mutual
 -- ---- FILTER
 
 -- In WHERE the fault of an operand does not depend on the grouping columns.
-operand_anywhere : (fields : List Field) (grouped other : List ℕ) (x : OperandForm) → operand_fault fields grouped clause.Where x ≡ operand_fault fields other clause.Where x
+operand_anywhere : (fields : List Field) (grouped other : List ℕ) (x : Operand) → operand_fault fields grouped clause.Where x ≡ operand_fault fields other clause.Where x
 operand_anywhere fields grouped other (expression (name n)) = refl
 operand_anywhere fields grouped other (expression (grouping ns)) = refl
 operand_anywhere fields grouped other (expression (function f)) = refl
@@ -206,7 +206,7 @@ operand_anywhere fields grouped other (literal a) = refl
 
 mutual
   -- Nor does that of a predicate.
-  predicate_anywhere : (fields : List Field) (grouped other : List ℕ) (p : PredicateForm) → predicate_fault fields grouped clause.Where p ≡ predicate_fault fields other clause.Where p
+  predicate_anywhere : (fields : List Field) (grouped other : List ℕ) (p : Predicate) → predicate_fault fields grouped clause.Where p ≡ predicate_fault fields other clause.Where p
   predicate_anywhere fields grouped other (or_of ps) = parts_anywhere fields grouped other ps
   predicate_anywhere fields grouped other (and_of ps) = parts_anywhere fields grouped other ps
   predicate_anywhere fields grouped other (not_of p) = predicate_anywhere fields grouped other p
@@ -223,21 +223,21 @@ mutual
   predicate_anywhere fields grouped other (column n) = refl
 
   -- Nor does that of parts.
-  parts_anywhere : (fields : List Field) (grouped other : List ℕ) (ps : PredicateForms) → parts_fault fields grouped clause.Where ps ≡ parts_fault fields other clause.Where ps
+  parts_anywhere : (fields : List Field) (grouped other : List ℕ) (ps : Predicates) → parts_fault fields grouped clause.Where ps ≡ parts_fault fields other clause.Where ps
   parts_anywhere fields grouped other no_parts = refl
   parts_anywhere fields grouped other (part p ps) =
       ap (λ k. option_or k (parts_fault fields grouped clause.Where ps)) (predicate_anywhere fields grouped other p)
       ∙ ap (λ k. option_or (predicate_fault fields other clause.Where p) k) (parts_anywhere fields grouped other ps)
 
 -- A FILTER with a fault.
-filter_stands : (fields : List Field) (t : TreeForm) (f : QueryFault) → FiltersStand fields t f
+filter_stands : (fields : List Field) (t : Query) (f : QueryFault) → FiltersStand fields t f
 filter_stands fields t f p at h =
     predicate_stands fields t clause.Where p f (λ other. absurd (other refl)) (λ a among. inr (p, at, among)) (predicate_anywhere fields (grouping_places fields t) [] p ∙ h)
 
 -- ---- clauses
 
 -- A clause of a predicate with a fault.
-clause_stands : (fields : List Field) (t : TreeForm) (c : Clause) (o : Option PredicateForm) (f : QueryFault) → ((a : PredicateForm) → Contains (option_map_or atoms o []) a → IsAtomIn t c a) → clause_fault fields (grouping_places fields t) c o ≡ Some f → IsViolation fields t f
+clause_stands : (fields : List Field) (t : Query) (c : Clause) (o : Option Predicate) (f : QueryFault) → ((a : Predicate) → Contains (option_map_or atoms o []) a → IsAtomIn t c a) → clause_fault fields (grouping_places fields t) c o ≡ Some f → IsViolation fields t f
 clause_stands fields t c None f inside h = absurd cc
 clause_stands fields t c (Some p) f inside h = predicate_stands fields t c p f (λ _. filter_stands fields t f) inside h
 
@@ -288,7 +288,7 @@ over most n f h =
 -- ---- the query
 
 -- The first fault of a query stands in it.
-pub first_stands : (fields : List Field) (t : TreeForm) (f : QueryFault) → query_fault fields t ≡ Some f → IsViolation fields t f
+pub first_stands : (fields : List Field) (t : Query) (f : QueryFault) → query_fault fields t ≡ Some f → IsViolation fields t f
 unfolding tests_of
 first_stands fields t f h =
     let grouped = grouping_places fields t in
@@ -298,18 +298,18 @@ first_stands fields t f h =
     (λ k. let found = first_at (column_fault fields) (grouping_names t) f k in column_stands fields t found.0 f (inl found.1) found.2)
     (λ _ b. either (limit_fault 256 (length (expansion t.groups))) _ f (IsViolation fields t f)
     (λ k. let n = over 256 (length (expansion t.groups)) f k in subst (IsViolation fields t) n.1 (inl n.0))
-    (λ _ c. either (first_fault (λ (i : ItemForm). expression_fault fields grouped clause.Select i.expression) t.items) _ f (IsViolation fields t f)
+    (λ _ c. either (first_fault (λ (i : SelectItem). expression_fault fields grouped clause.Select i.expression) t.items) _ f (IsViolation fields t f)
     (λ k.
-    let found = first_at (λ (i : ItemForm). expression_fault fields grouped clause.Select i.expression) t.items f k in
-    expression_stands fields t clause.Select found.0.expression f (λ _. filter_stands fields t f) (mapped (λ (i : ItemForm). i.expression) t.items found.0 found.1) found.2)
+    let found = first_at (λ (i : SelectItem). expression_fault fields grouped clause.Select i.expression) t.items f k in
+    expression_stands fields t clause.Select found.0.expression f (λ _. filter_stands fields t f) (mapped (λ (i : SelectItem). i.expression) t.items found.0 found.1) found.2)
     (λ _ d. either (headers_fault (map header_text t.items)) _ f (IsViolation fields t f)
     (λ k. let n = header_stands [] (map header_text t.items) f k in subst (IsViolation fields t) n.2 n.1)
     (λ _ e. either (clause_fault fields grouped clause.Having t.having_condition) _ f (IsViolation fields t f)
     (λ k. clause_stands fields t clause.Having t.having_condition f (λ a at. at) k)
-    (λ _ g. either (first_fault (λ (k : KeyForm). expression_fault fields grouped clause.OrderBy (key_expression t.items k.expression)) t.keys) _ f (IsViolation fields t f)
+    (λ _ g. either (first_fault (λ (k : SortKey). expression_fault fields grouped clause.OrderBy (key_expression t.items k.expression)) t.keys) _ f (IsViolation fields t f)
     (λ k.
-    let found = first_at (λ (k : KeyForm). expression_fault fields grouped clause.OrderBy (key_expression t.items k.expression)) t.keys f k in
-    expression_stands fields t clause.OrderBy (key_expression t.items found.0.expression) f (λ _. filter_stands fields t f) (mapped (λ (k : KeyForm). key_expression t.items k.expression) t.keys found.0 found.1) found.2)
+    let found = first_at (λ (k : SortKey). expression_fault fields grouped clause.OrderBy (key_expression t.items k.expression)) t.keys f k in
+    expression_stands fields t clause.OrderBy (key_expression t.items found.0.expression) f (λ _. filter_stands fields t f) (mapped (λ (k : SortKey). key_expression t.items k.expression) t.keys found.0 found.1) found.2)
     (λ _ i. either (limit_fault 64 (length (functions_of fields t))) None f (IsViolation fields t f)
     (λ k. let n = over 64 (length (functions_of fields t)) f k in subst (IsViolation fields t) n.1 (inr n.0))
     (λ _ j. absurd cc)
@@ -323,6 +323,6 @@ first_stands fields t f h =
     h
 
 -- A query that is refused, other than for want of memory, has the fault.
-pub stands_err : {X : Type 0} (fields : List Field) (t : TreeForm) (r : Result X QueryFault) → Answers r (query_fault fields t) → IfErr r (λ f. f ≢ OutOfMemory → IsViolation fields t f)
+pub stands_err : {X : Type 0} (fields : List Field) (t : Query) (r : Result X QueryFault) → Answers r (query_fault fields t) → IfErr r (λ f. f ≢ OutOfMemory → IsViolation fields t f)
 stands_err fields t (Ok x) h = tt
 stands_err fields t (Err f) h = λ other. first_stands fields t f (h other)

@@ -9,7 +9,7 @@ use Rattle.semantics.specs.declared.kind.Kind.{Kind}
 use Rattle.semantics.specs.declared.kind.Kind.TheVariants as kind
 use Rattle.semantics.specs.Columns.{Field}
 use Rattle.semantics.specs.declared.aggregate.Aggregate.{Aggregate}
-use Rattle.semantics.specs.Syntax.{ExpressionForm, FunctionForm, OperandForm, PredicateForm, PredicateForms, name, grouping, function, over_all, over_filtered, expression, literal, or_of, and_of, not_of, truth_test, compare, between, member, null_test, column, no_parts, part}
+use Rattle.semantics.specs.Syntax.{Expression, SetFunction, Operand, Predicate, Predicates, name, grouping, function, over_all, over_filtered, expression, literal, or_of, and_of, not_of, truth_test, compare, between, member, null_test, column, no_parts, part}
 use Rattle.semantics.specs.declared.query_fault.QueryFault.{QueryFault}
 use Rattle.semantics.specs.declared.query_fault.QueryFault.TheVariants.{FunctionNotAllowed}
 use Rattle.query_typecheck.specs.declared.scope.Clause.{Clause}
@@ -197,13 +197,13 @@ none_from_agreed a b h = rw (h.1, h.2) (passes (same_kind h.0 h.0) _ (same_itsel
 
 mutual
   -- An expression without a fault is typed.
-  pub expression_from_none : (fields : List Field) (grouped : List ℕ) (c : Clause) (e : ExpressionForm) → expression_fault fields grouped c e ≡ None → IsTypedExpression fields grouped c e
+  pub expression_from_none : (fields : List Field) (grouped : List ℕ) (c : Clause) (e : Expression) → expression_fault fields grouped c e ≡ None → IsTypedExpression fields grouped c e
   expression_from_none fields grouped c (name n) h = name_from_none fields grouped c n h
   expression_from_none fields grouped c (grouping ns) h = grouping_from_none fields grouped c ns h
   expression_from_none fields grouped c (function f) h = function_from_none fields c f h
 
   -- A set function without a fault is typed.
-  function_from_none : (fields : List Field) (c : Clause) (f : FunctionForm) → function_fault fields c f ≡ None → IsTypedFunction fields c f
+  function_from_none : (fields : List Field) (c : Clause) (f : SetFunction) → function_fault fields c f ≡ None → IsTypedFunction fields c f
   function_from_none fields c (over_all a) h = let k = chosen (may_stand c a) (aggregate_fault fields a) FunctionNotAllowed h in (k.0, aggregate_from_none fields a k.1)
   function_from_none fields c (over_filtered a p) h =
       let k = chosen (may_stand c a) (option_or (aggregate_fault fields a) (predicate_fault fields [] clause.Where p)) FunctionNotAllowed h in
@@ -211,12 +211,12 @@ mutual
       (k.0, aggregate_from_none fields a l.0, predicate_from_none fields [] clause.Where p l.1)
 
   -- An operand without a fault is typed.
-  pub operand_from_none : (fields : List Field) (grouped : List ℕ) (c : Clause) (x : OperandForm) → operand_fault fields grouped c x ≡ None → IsTypedOperand fields grouped c x
+  pub operand_from_none : (fields : List Field) (grouped : List ℕ) (c : Clause) (x : Operand) → operand_fault fields grouped c x ≡ None → IsTypedOperand fields grouped c x
   operand_from_none fields grouped c (expression e) h = expression_from_none fields grouped c e h
   operand_from_none fields grouped c (literal a) h = tt
 
   -- A predicate without a fault is typed.
-  pub predicate_from_none : (fields : List Field) (grouped : List ℕ) (c : Clause) (p : PredicateForm) → predicate_fault fields grouped c p ≡ None → IsTypedPredicate fields grouped c p
+  pub predicate_from_none : (fields : List Field) (grouped : List ℕ) (c : Clause) (p : Predicate) → predicate_fault fields grouped c p ≡ None → IsTypedPredicate fields grouped c p
   predicate_from_none fields grouped c (or_of ps) h = parts_from_none fields grouped c ps h
   predicate_from_none fields grouped c (and_of ps) h = parts_from_none fields grouped c ps h
   predicate_from_none fields grouped c (not_of p) h = predicate_from_none fields grouped c p h
@@ -240,7 +240,7 @@ mutual
       (name_from_none fields grouped c n i.0, one_kind kind.Bool (column_kind fields n) (kind_from_none (kind.Bool ∷ []) (column_kind fields n) i.1))
 
   -- Parts without a fault are typed.
-  parts_from_none : (fields : List Field) (grouped : List ℕ) (c : Clause) (ps : PredicateForms) → parts_fault fields grouped c ps ≡ None → AreTypedParts fields grouped c ps
+  parts_from_none : (fields : List Field) (grouped : List ℕ) (c : Clause) (ps : Predicates) → parts_fault fields grouped c ps ≡ None → AreTypedParts fields grouped c ps
   parts_from_none fields grouped c no_parts h = tt
   parts_from_none fields grouped c (part p ps) h =
       let i = none_of_both (predicate_fault fields grouped c p) _ h in
@@ -248,24 +248,24 @@ mutual
 
 mutual
   -- A typed expression has no fault.
-  pub none_from_expression : (fields : List Field) (grouped : List ℕ) (c : Clause) (e : ExpressionForm) → IsTypedExpression fields grouped c e → expression_fault fields grouped c e ≡ None
+  pub none_from_expression : (fields : List Field) (grouped : List ℕ) (c : Clause) (e : Expression) → IsTypedExpression fields grouped c e → expression_fault fields grouped c e ≡ None
   none_from_expression fields grouped c (name n) h = none_from_name fields grouped c n h
   none_from_expression fields grouped c (grouping ns) h = none_from_grouping fields grouped c ns h
   none_from_expression fields grouped c (function f) h = none_from_function fields c f h
 
   -- A typed set function has no fault.
-  none_from_function : (fields : List Field) (c : Clause) (f : FunctionForm) → IsTypedFunction fields c f → function_fault fields c f ≡ None
+  none_from_function : (fields : List Field) (c : Clause) (f : SetFunction) → IsTypedFunction fields c f → function_fault fields c f ≡ None
   none_from_function fields c (over_all a) h = rw (h.0) (none_from_aggregate fields a h.1)
   none_from_function fields c (over_filtered a p) h =
       rw (h.0) (both_none (aggregate_fault fields a) (predicate_fault fields [] clause.Where p) (none_from_aggregate fields a h.1) (none_from_predicate fields [] clause.Where p h.2))
 
   -- A typed operand has no fault.
-  none_from_operand : (fields : List Field) (grouped : List ℕ) (c : Clause) (x : OperandForm) → IsTypedOperand fields grouped c x → operand_fault fields grouped c x ≡ None
+  none_from_operand : (fields : List Field) (grouped : List ℕ) (c : Clause) (x : Operand) → IsTypedOperand fields grouped c x → operand_fault fields grouped c x ≡ None
   none_from_operand fields grouped c (expression e) h = none_from_expression fields grouped c e h
   none_from_operand fields grouped c (literal a) h = refl
 
   -- A typed predicate has no fault.
-  pub none_from_predicate : (fields : List Field) (grouped : List ℕ) (c : Clause) (p : PredicateForm) → IsTypedPredicate fields grouped c p → predicate_fault fields grouped c p ≡ None
+  pub none_from_predicate : (fields : List Field) (grouped : List ℕ) (c : Clause) (p : Predicate) → IsTypedPredicate fields grouped c p → predicate_fault fields grouped c p ≡ None
   none_from_predicate fields grouped c (or_of ps) h = none_from_parts fields grouped c ps h
   none_from_predicate fields grouped c (and_of ps) h = none_from_parts fields grouped c ps h
   none_from_predicate fields grouped c (not_of p) h = none_from_predicate fields grouped c p h
@@ -282,16 +282,16 @@ mutual
       both_none _ _ (none_from_name fields grouped c n h.0) (rw h.1 refl)
 
   -- Typed parts have no fault.
-  none_from_parts : (fields : List Field) (grouped : List ℕ) (c : Clause) (ps : PredicateForms) → AreTypedParts fields grouped c ps → parts_fault fields grouped c ps ≡ None
+  none_from_parts : (fields : List Field) (grouped : List ℕ) (c : Clause) (ps : Predicates) → AreTypedParts fields grouped c ps → parts_fault fields grouped c ps ≡ None
   none_from_parts fields grouped c no_parts h = refl
   none_from_parts fields grouped c (part p ps) h = both_none _ _ (none_from_predicate fields grouped c p h.0) (none_from_parts fields grouped c ps h.1)
 
 -- A clause without a fault is typed.
-pub clause_from_none : (fields : List Field) (grouped : List ℕ) (c : Clause) (o : Option PredicateForm) → clause_fault fields grouped c o ≡ None → IsTypedClause fields grouped c o
+pub clause_from_none : (fields : List Field) (grouped : List ℕ) (c : Clause) (o : Option Predicate) → clause_fault fields grouped c o ≡ None → IsTypedClause fields grouped c o
 clause_from_none fields grouped c None h = tt
 clause_from_none fields grouped c (Some p) h = predicate_from_none fields grouped c p h
 
 -- A typed clause has no fault.
-pub none_from_clause : (fields : List Field) (grouped : List ℕ) (c : Clause) (o : Option PredicateForm) → IsTypedClause fields grouped c o → clause_fault fields grouped c o ≡ None
+pub none_from_clause : (fields : List Field) (grouped : List ℕ) (c : Clause) (o : Option Predicate) → IsTypedClause fields grouped c o → clause_fault fields grouped c o ≡ None
 none_from_clause fields grouped c None h = refl
 none_from_clause fields grouped c (Some p) h = none_from_predicate fields grouped c p h

@@ -11,7 +11,7 @@ use Rattle.std.proofs.lemmas.Slice.Eq.{bytes_eq-Decides}
 use Rattle.std.proofs.Math.ListN.{get_or-append}
 use Rattle.std.proofs.Math.Seq.{get_or-append_seam, take-append_seam}
 use Rattle.semantics.specs.Columns.{Field}
-use Rattle.semantics.specs.Syntax.{ItemForm, KeyForm, TreeForm}
+use Rattle.semantics.specs.Syntax.{SelectItem, SortKey, Query}
 use Rattle.semantics.specs.Canonical.{header_text}
 use Rattle.semantics.specs.declared.query_fault.QueryFault.{QueryFault}
 use Rattle.semantics.specs.declared.query_fault.QueryFault.TheVariants.{OutOfMemory, OverLimit, RepeatedHeader}
@@ -99,49 +99,49 @@ none_within most n h = let t : nat_lt most n ≡ false = grind (arith, nat_tests
 -- ---- the query
 
 -- A query without a fault is typed.
-pub typed_from_none : (fields : List Field) (t : TreeForm) → query_fault fields t ≡ None → IsTyped fields t
+pub typed_from_none : (fields : List Field) (t : Query) → query_fault fields t ≡ None → IsTyped fields t
 unfolding tests_of
 typed_from_none fields t h =
     let grouped = grouping_places fields t in
     let a = none_of_both (clause_fault fields grouped clause.Where t.where_condition) _ h in
     let b = none_of_both (first_fault (column_fault fields) (grouping_names t)) _ a.1 in
     let c = none_of_both (limit_fault 256 (length (expansion t.groups))) _ b.1 in
-    let d = none_of_both (first_fault (λ (i : ItemForm). expression_fault fields grouped clause.Select i.expression) t.items) _ c.1 in
+    let d = none_of_both (first_fault (λ (i : SelectItem). expression_fault fields grouped clause.Select i.expression) t.items) _ c.1 in
     let e = none_of_both (headers_fault (map header_text t.items)) _ d.1 in
     let g = none_of_both (clause_fault fields grouped clause.Having t.having_condition) _ e.1 in
-    let i = none_of_both (first_fault (λ (k : KeyForm). expression_fault fields grouped clause.OrderBy (key_expression t.items k.expression)) t.keys) _ g.1 in
+    let i = none_of_both (first_fault (λ (k : SortKey). expression_fault fields grouped clause.OrderBy (key_expression t.items k.expression)) t.keys) _ g.1 in
     let j = none_of_both (limit_fault 64 (length (functions_of fields t))) None i.1 in
     record {
       where_condition = clause_from_none fields grouped clause.Where t.where_condition a.0;
       groups = all_from_none (column_fault fields) (IsColumn fields) (λ n k. holds (is_some (place_of fields n)) _ k) (grouping_names t) b.0;
       few_sets = within 256 (length (expansion t.groups)) c.0;
-      items = all_from_none (λ (i : ItemForm). expression_fault fields grouped clause.Select i.expression) (λ i. IsTypedExpression fields grouped clause.Select i.expression) (λ i k. expression_from_none fields grouped clause.Select i.expression k) t.items d.0;
+      items = all_from_none (λ (i : SelectItem). expression_fault fields grouped clause.Select i.expression) (λ i. IsTypedExpression fields grouped clause.Select i.expression) (λ i k. expression_from_none fields grouped clause.Select i.expression k) t.items d.0;
       headers_differ = different_from_none [] (map header_text t.items) (λ i j d l m. absurd (omega (arith, m))) e.0;
       having_condition = clause_from_none fields grouped clause.Having t.having_condition g.0;
-      keys = all_from_none (λ (k : KeyForm). expression_fault fields grouped clause.OrderBy (key_expression t.items k.expression)) (λ k. IsTypedExpression fields grouped clause.OrderBy (key_expression t.items k.expression)) (λ k e. expression_from_none fields grouped clause.OrderBy (key_expression t.items k.expression) e) t.keys i.0;
+      keys = all_from_none (λ (k : SortKey). expression_fault fields grouped clause.OrderBy (key_expression t.items k.expression)) (λ k. IsTypedExpression fields grouped clause.OrderBy (key_expression t.items k.expression)) (λ k e. expression_from_none fields grouped clause.OrderBy (key_expression t.items k.expression) e) t.keys i.0;
       few_functions = within 64 (length (functions_of fields t)) j.0;
     }
 
 -- A typed query has no fault.
-pub none_from_typed : (fields : List Field) (t : TreeForm) → IsTyped fields t → query_fault fields t ≡ None
+pub none_from_typed : (fields : List Field) (t : Query) → IsTyped fields t → query_fault fields t ≡ None
 unfolding tests_of
 none_from_typed fields t h =
     let grouped = grouping_places fields t in
     both_none _ _ (none_from_clause fields grouped clause.Where t.where_condition h.where_condition)
     (both_none _ _ (none_from_all (column_fault fields) (IsColumn fields) (λ n k. passes (is_some (place_of fields n)) _ k) (grouping_names t) h.groups)
     (both_none _ _ (none_within 256 (length (expansion t.groups)) h.few_sets)
-    (both_none _ _ (none_from_all (λ (i : ItemForm). expression_fault fields grouped clause.Select i.expression) (λ i. IsTypedExpression fields grouped clause.Select i.expression) (λ i k. none_from_expression fields grouped clause.Select i.expression k) t.items h.items)
+    (both_none _ _ (none_from_all (λ (i : SelectItem). expression_fault fields grouped clause.Select i.expression) (λ i. IsTypedExpression fields grouped clause.Select i.expression) (λ i k. none_from_expression fields grouped clause.Select i.expression k) t.items h.items)
     (both_none _ _ (none_from_different [] (map header_text t.items) h.headers_differ)
     (both_none _ _ (none_from_clause fields grouped clause.Having t.having_condition h.having_condition)
-    (both_none _ _ (none_from_all (λ (k : KeyForm). expression_fault fields grouped clause.OrderBy (key_expression t.items k.expression)) (λ k. IsTypedExpression fields grouped clause.OrderBy (key_expression t.items k.expression)) (λ k e. none_from_expression fields grouped clause.OrderBy (key_expression t.items k.expression) e) t.keys h.keys)
+    (both_none _ _ (none_from_all (λ (k : SortKey). expression_fault fields grouped clause.OrderBy (key_expression t.items k.expression)) (λ k. IsTypedExpression fields grouped clause.OrderBy (key_expression t.items k.expression)) (λ k e. none_from_expression fields grouped clause.OrderBy (key_expression t.items k.expression) e) t.keys h.keys)
     (both_none _ _ (none_within 64 (length (functions_of fields t)) h.few_functions) refl)))))))
 
 -- A query that is let through is typed.
-pub typed_ok : {X : Type 0} (fields : List Field) (t : TreeForm) (r : Result X QueryFault) → Answers r (query_fault fields t) → OnOk r (IsTyped fields t)
+pub typed_ok : {X : Type 0} (fields : List Field) (t : Query) (r : Result X QueryFault) → Answers r (query_fault fields t) → OnOk r (IsTyped fields t)
 typed_ok fields t (Ok x) h = typed_from_none fields t h
 typed_ok fields t (Err f) h = tt
 
 -- A query that is refused, other than for want of memory, is not typed.
-pub untyped_err : {X : Type 0} (fields : List Field) (t : TreeForm) (r : Result X QueryFault) → Answers r (query_fault fields t) → IfErr r (λ f. f ≢ OutOfMemory → IsTyped fields t → ⊥)
+pub untyped_err : {X : Type 0} (fields : List Field) (t : Query) (r : Result X QueryFault) → Answers r (query_fault fields t) → IfErr r (λ f. f ≢ OutOfMemory → IsTyped fields t → ⊥)
 untyped_err fields t (Ok x) h = tt
 untyped_err fields t (Err f) h = λ other typed. let none = none_from_typed fields t typed in let some = h other in let clash : ⊥ = cc in clash

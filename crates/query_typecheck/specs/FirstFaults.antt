@@ -8,7 +8,7 @@ use Rattle.semantics.specs.declared.kind.Kind.TheVariants as kind
 use Rattle.semantics.specs.Columns.{Field}
 use Rattle.semantics.specs.declared.aggregate.Aggregate.{Aggregate}
 use Rattle.semantics.specs.declared.literal.Literal.{Literal}
-use Rattle.semantics.specs.Syntax.{ExpressionForm, FunctionForm, OperandForm, PredicateForm, PredicateForms, TreeForm, name, grouping, function, over_all, over_filtered, expression, literal, or_of, and_of, not_of, truth_test, compare, between, member, null_test, column, no_parts, part}
+use Rattle.semantics.specs.Syntax.{Expression, SetFunction, Operand, Predicate, Predicates, Query, name, grouping, function, over_all, over_filtered, expression, literal, or_of, and_of, not_of, truth_test, compare, between, member, null_test, column, no_parts, part}
 use Rattle.semantics.specs.Canonical.{header_text}
 use Rattle.semantics.specs.declared.query_fault.QueryFault.{QueryFault}
 use Rattle.semantics.specs.declared.query_fault.QueryFault.TheVariants.{UnknownColumn, TypesDisagree, NotGrouped, OverLimit, FunctionNotAllowed, RepeatedHeader, OutOfMemory}
@@ -91,13 +91,13 @@ agreement_fault (Some k) None = Some TypesDisagree
 agreement_fault (Some k) (Some l) = fault_unless (same_kind k l) TypesDisagree
 
 -- In BETWEEN the types of all three operands are one.
-abbrev pub between_agreement : List Field → OperandForm → OperandForm → OperandForm → Option QueryFault
+abbrev pub between_agreement : List Field → Operand → Operand → Operand → Option QueryFault
 between_agreement fields x y z =
     option_or (agreement_fault (operand_kind fields x) (operand_kind fields y))
     (agreement_fault (operand_kind fields x) (operand_kind fields z))
 
 -- In IN the types of the operand and of all literals are one.
-abbrev pub member_agreement : List Field → OperandForm → List Literal → Option QueryFault
+abbrev pub member_agreement : List Field → Operand → List Literal → Option QueryFault
 member_agreement fields x ls = first_fault (λ a. agreement_fault (operand_kind fields x) (Some (literal_kind a))) ls
 
 -- A bare name is a column of truth values.
@@ -107,25 +107,25 @@ truth_fault fields grouped c n =
 
 abbrev mutual
   -- The first fault of an expression in a clause.
-  pub expression_fault : List Field → List ℕ → Clause → ExpressionForm → Option QueryFault
+  pub expression_fault : List Field → List ℕ → Clause → Expression → Option QueryFault
   expression_fault fields grouped c (name n) = name_fault fields grouped c n
   expression_fault fields grouped c (grouping ns) = grouping_fault fields grouped c ns
   expression_fault fields grouped c (function f) = function_fault fields c f
 
   -- A set function that may not stand is not looked into. Else its argument is tested, and then its FILTER, in which all
   -- stands as in WHERE.
-  pub function_fault : List Field → Clause → FunctionForm → Option QueryFault
+  pub function_fault : List Field → Clause → SetFunction → Option QueryFault
   function_fault fields c (over_all a) = if may_stand c a then aggregate_fault fields a else Some FunctionNotAllowed
   function_fault fields c (over_filtered a p) =
       if may_stand c a then option_or (aggregate_fault fields a) (predicate_fault fields [] clause.Where p) else Some FunctionNotAllowed
 
   -- The first fault of an operand; a literal has none.
-  pub operand_fault : List Field → List ℕ → Clause → OperandForm → Option QueryFault
+  pub operand_fault : List Field → List ℕ → Clause → Operand → Option QueryFault
   operand_fault fields grouped c (expression e) = expression_fault fields grouped c e
   operand_fault fields grouped c (literal a) = None
 
   -- The first fault of a predicate in a clause. In an atom all operands are tested from the left, then their types.
-  pub predicate_fault : List Field → List ℕ → Clause → PredicateForm → Option QueryFault
+  pub predicate_fault : List Field → List ℕ → Clause → Predicate → Option QueryFault
   predicate_fault fields grouped c (or_of ps) = parts_fault fields grouped c ps
   predicate_fault fields grouped c (and_of ps) = parts_fault fields grouped c ps
   predicate_fault fields grouped c (not_of p) = predicate_fault fields grouped c p
@@ -144,14 +144,14 @@ abbrev mutual
   predicate_fault fields grouped c (column n) = truth_fault fields grouped c n
 
   -- The first fault of the parts of an OR or an AND.
-  pub parts_fault : List Field → List ℕ → Clause → PredicateForms → Option QueryFault
+  pub parts_fault : List Field → List ℕ → Clause → Predicates → Option QueryFault
   parts_fault fields grouped c no_parts = None
   parts_fault fields grouped c (part p ps) = option_or (predicate_fault fields grouped c p) (parts_fault fields grouped c ps)
 
 -- ---- the query
 
 -- The first fault of a clause of one predicate, where it is written.
-abbrev pub clause_fault : List Field → List ℕ → Clause → Option PredicateForm → Option QueryFault
+abbrev pub clause_fault : List Field → List ℕ → Clause → Option Predicate → Option QueryFault
 clause_fault fields grouped c None = None
 clause_fault fields grouped c (Some p) = predicate_fault fields grouped c p
 
@@ -169,7 +169,7 @@ limit_fault most n = fault_unless (not (nat_lt most n)) OverLimit
 
 -- The tests of a query under a schema, in their order: WHERE, the names in GROUP BY, the number of its expanded sets, the
 -- items of SELECT, their headers, HAVING, the keys of ORDER BY, and the number of different set functions.
-unfoldable pub tests_of : List Field → TreeForm → List (Option QueryFault)
+unfoldable pub tests_of : List Field → Query → List (Option QueryFault)
 tests_of fields t =
     clause_fault fields (grouping_places fields t) clause.Where t.where_condition
     ∷ first_fault (column_fault fields) (grouping_names t)
@@ -182,5 +182,5 @@ tests_of fields t =
     ∷ []
 
 -- The first fault of a query under a schema.
-abbrev pub query_fault : List Field → TreeForm → Option QueryFault
+abbrev pub query_fault : List Field → Query → Option QueryFault
 query_fault fields t = first_fault (λ fault. fault) (tests_of fields t)

@@ -5,7 +5,7 @@ use Rattle.semantics.specs.declared.kind.Kind.TheVariants as kind
 use Rattle.semantics.specs.Columns.{Field}
 use Rattle.semantics.specs.declared.aggregate.Aggregate.{Aggregate}
 use Rattle.semantics.specs.declared.aggregate.Aggregate.TheVariants as aggregate
-use Rattle.semantics.specs.Syntax.{ExpressionForm, FunctionForm, OperandForm, PredicateForm, PredicateForms, TreeForm, name, grouping, function, over_all, over_filtered, expression, literal, or_of, and_of, not_of, truth_test, compare, between, member, null_test, column, no_parts, part}
+use Rattle.semantics.specs.Syntax.{Expression, SetFunction, Operand, Predicate, Predicates, Query, name, grouping, function, over_all, over_filtered, expression, literal, or_of, and_of, not_of, truth_test, compare, between, member, null_test, column, no_parts, part}
 use Rattle.semantics.specs.Canonical.{header_text}
 use Rattle.query_typecheck.specs.declared.scope.Clause.{Clause}
 use Rattle.query_typecheck.specs.declared.scope.Clause.TheVariants as clause
@@ -92,25 +92,25 @@ IsOfOneKind k l = (one : Kind) × (k ≡ Some one) × (l ≡ Some one)
 
 abbrev mutual
   -- An expression is typed in a clause where its name, its GROUPING or its set function is.
-  pub IsTypedExpression : List Field → List ℕ → Clause → ExpressionForm → Type 0
+  pub IsTypedExpression : List Field → List ℕ → Clause → Expression → Type 0
   IsTypedExpression fields grouped c (name n) = IsTypedName fields grouped c n
   IsTypedExpression fields grouped c (grouping ns) = IsTypedGrouping fields grouped c ns
   IsTypedExpression fields grouped c (function f) = IsTypedFunction fields c f
 
   -- A set function is typed where it may stand and takes its column. Its FILTER is typed as WHERE is, in whichever clause
   -- the function stands: names are columns, and no set function and no GROUPING may stand there.
-  pub IsTypedFunction : List Field → Clause → FunctionForm → Type 0
+  pub IsTypedFunction : List Field → Clause → SetFunction → Type 0
   IsTypedFunction fields c (over_all a) = IsTrue (may_stand c a) × IsTypedAggregate fields a
   IsTypedFunction fields c (over_filtered a p) = IsTrue (may_stand c a) × IsTypedAggregate fields a × IsTypedPredicate fields [] clause.Where p
 
   -- An operand is typed where its expression is; a literal always is.
-  pub IsTypedOperand : List Field → List ℕ → Clause → OperandForm → Type 0
+  pub IsTypedOperand : List Field → List ℕ → Clause → Operand → Type 0
   IsTypedOperand fields grouped c (expression e) = IsTypedExpression fields grouped c e
   IsTypedOperand fields grouped c (literal a) = ⊤
 
   -- In comparisons, BETWEEN and IN all operands and literals are of one type; IS NULL takes any operand;
   -- a bare name is a column of truth values.
-  pub IsTypedPredicate : List Field → List ℕ → Clause → PredicateForm → Type 0
+  pub IsTypedPredicate : List Field → List ℕ → Clause → Predicate → Type 0
   IsTypedPredicate fields grouped c (or_of ps) = AreTypedParts fields grouped c ps
   IsTypedPredicate fields grouped c (and_of ps) = AreTypedParts fields grouped c ps
   IsTypedPredicate fields grouped c (not_of p) = IsTypedPredicate fields grouped c p
@@ -127,21 +127,21 @@ abbrev mutual
   IsTypedPredicate fields grouped c (column n) = IsTypedName fields grouped c n × HasKind fields kind.Bool n
 
   -- All parts of an OR or an AND are typed.
-  pub AreTypedParts : List Field → List ℕ → Clause → PredicateForms → Type 0
+  pub AreTypedParts : List Field → List ℕ → Clause → Predicates → Type 0
   AreTypedParts fields grouped c no_parts = ⊤
   AreTypedParts fields grouped c (part p ps) = IsTypedPredicate fields grouped c p × AreTypedParts fields grouped c ps
 
 -- ---- the query
 
 -- A clause of a predicate is typed where the predicate is, if it is written.
-abbrev pub IsTypedClause : List Field → List ℕ → Clause → Option PredicateForm → Type 0
+abbrev pub IsTypedClause : List Field → List ℕ → Clause → Option Predicate → Type 0
 IsTypedClause fields grouped c None = ⊤
 IsTypedClause fields grouped c (Some p) = IsTypedPredicate fields grouped c p
 
 -- A query is typed under a schema where each of its clauses is: names are columns, or grouping columns where
 -- only these may stand, types agree, and functions stand where they may. It has at most 256 expanded grouping
 -- sets and at most 64 different set functions, and the headers of its items differ.
-pub record IsTyped (fields : List Field) (t : TreeForm) : Type 0 where
+pub record IsTyped (fields : List Field) (t : Query) : Type 0 where
   pub where_condition : IsTypedClause fields (grouping_places fields t) clause.Where t.where_condition
   pub groups : All (IsColumn fields) (grouping_names t)
   pub few_sets : length (expansion t.groups) ≤ most_grouping_sets

@@ -3,7 +3,7 @@
 ghost use Rattle.std.specs.Prelude.{◌≡◌, ◌↔◌, List, [], Option, Some, Decides, slice_get};
 ghost use Rattle.semantics.specs.Columns.{Field};
 ghost use Rattle.semantics.specs.declared.kind.Kind.{Kind};
-ghost use Rattle.semantics.specs.Syntax.{TreeForm};
+ghost use Rattle.semantics.specs.Syntax.{Query};
 ghost use Rattle.semantics.specs.declared.query_fault.QueryFault.{QueryFault};
 ghost use Rattle.query_typecheck.specs.FirstFaults.{IsFirst, first_fault, query_fault};
 ghost use Rattle.semantics.specs.Faults.{query_faults, same_kind};
@@ -14,8 +14,8 @@ ghost use Rattle.query_typecheck.specs.Typing.{IsTyped};
 /// A law: the index of each set function of a query leads to its own FILTER, and each FILTER of a typed query is typed
 /// as WHERE is.
 pub fn filters_law()
-    ensures back { (fields : List Field) (t : TreeForm) → LeadBack fields t }
-    ensures typed { (fields : List Field) (t : TreeForm) → IsTyped fields t
+    ensures back { (fields : List Field) (t : Query) → LeadBack fields t }
+    ensures typed { (fields : List Field) (t : Query) → IsTyped fields t
         → AreTypedFilters fields t }
 {}
 
@@ -30,10 +30,10 @@ pub fn first_fault_law<A>()
 /// A law: a query has no fault exactly where it is typed; the first of its faults is that of the first test that it
 /// fails, and stands in it.
 pub fn typed_law()
-    ensures typed { (fields : List Field) (t : TreeForm)
+    ensures typed { (fields : List Field) (t : Query)
         → query_faults fields t ≡ [] ↔ IsTyped fields t }
-    ensures first { (fields : List Field) (t : TreeForm)
+    ensures first { (fields : List Field) (t : Query)
         → slice_get (query_faults fields t) 0 ≡ query_fault fields t }
-    ensures stands { (fields : List Field) (t : TreeForm) (f : QueryFault)
+    ensures stands { (fields : List Field) (t : Query) (f : QueryFault)
         → slice_get (query_faults fields t) 0 ≡ Some f → IsViolation fields t f }
 {}

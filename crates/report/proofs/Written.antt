@@ -5,9 +5,9 @@ use Rattle.std.specs.List.{flat_map}
 use Rattle.std.proofs.lemmas.List.{append-nil, flat_map_more, map-append}
 use Rattle.std.proofs.lemmas.List.Concat.{flat_map-append}
 use Rattle.csv.specs.Writing.{row_text, default_writer}
-use Rattle.semantics.specs.Syntax.{ItemForm}
+use Rattle.semantics.specs.Syntax.{SelectItem}
 use Rattle.semantics.specs.Canonical.{header_text}
-use Rattle.semantics.specs.Aggregates.{Summary}
+use Rattle.semantics.specs.Aggregates.{CellValue}
 use Rattle.std.specs.Global.{Vec}
 use Rattle.std.specs.declared.alloc.AllocError.{AllocError}
 use Rattle.std.specs.declared.result.Result.{Result}
@@ -18,7 +18,7 @@ use Rattle.report.specs.Inside.Text.{rows_bytes}
 use Rattle.report.specs.Inside.Parts.{AreTextsOf, IsTextOf}
 
 -- one more row behind those that were written
-pub written-next : (items : List ItemForm) (old new : Option (List ℕ)) (done more : List (List Summary)) (row : List Summary) → old ≡ Some (report_bytes items done) → Appends old new (row_text default_writer (map cell_field row)) → more ≡ done ++ row ∷ [] → new ≡ Some (report_bytes items more)
+pub written-next : (items : List SelectItem) (old new : Option (List ℕ)) (done more : List (List CellValue)) (row : List CellValue) → old ≡ Some (report_bytes items done) → Appends old new (row_text default_writer (map cell_field row)) → more ≡ done ++ row ∷ [] → new ≡ Some (report_bytes items more)
 written-next items None new done more row is appends all = absurd cc
 written-next items (Some xs) None done more row is appends all = absurd appends
 written-next items (Some xs) (Some ys) done more row is appends all =
@@ -31,17 +31,17 @@ written-next items (Some xs) (Some ys) done more row is appends all =
     ∙ ap (report_bytes items) (sym all))
 
 -- rows behind rows
-pub rows-append : (rows more : List (List Summary)) → rows_bytes (rows ++ more) ≡ rows_bytes rows ++ rows_bytes more
+pub rows-append : (rows more : List (List CellValue)) → rows_bytes (rows ++ more) ≡ rows_bytes rows ++ rows_bytes more
 rows-append rows more =
     ap (flat_map (row_text default_writer)) (map-append (map cell_field) rows more)
     ∙ flat_map-append (row_text default_writer) (map (map cell_field) rows) (map (map cell_field) more)
 
 -- texts one after the other have the bytes of all rows
-pub texts-joined : (size : ℕ) (rows : List (List Summary)) (texts : List (Result (Vec ℕ) AllocError)) → AreTextsOf size rows texts → AreMade texts → flat_map items_of texts ≡ rows_bytes rows
+pub texts-joined : (size : ℕ) (rows : List (List CellValue)) (texts : List (Result (Vec ℕ) AllocError)) → AreTextsOf size rows texts → AreMade texts → flat_map items_of texts ≡ rows_bytes rows
 texts-joined = parts-joined IsTextOf refl (λ xs us ys vs e f. (λ i. e i ++ f i) ∙ sym (rows-append xs us))
 
 -- one more row behind those that were written behind what was there
-pub appended-next : (old new next : Option (List ℕ)) (done more : List (List Summary)) (row : List Summary)
+pub appended-next : (old new next : Option (List ℕ)) (done more : List (List CellValue)) (row : List CellValue)
     → Appends old new (rows_bytes done) → Appends new next (row_text default_writer (map cell_field row)) → more ≡ done ++ row ∷ [] → Appends old next (rows_bytes more)
 appended-next None new next done more row first then all = tt
 appended-next (Some xs) None next done more row first then all = absurd first
@@ -60,7 +60,7 @@ appended-none None = tt
 appended-none (Some xs) = sym (append-nil xs)
 
 -- the headers, and then the rows
-pub report-written : (items : List ItemForm) (old new : Option (List ℕ)) (text : List ℕ) (rows : List (List Summary))
+pub report-written : (items : List SelectItem) (old new : Option (List ℕ)) (text : List ℕ) (rows : List (List CellValue))
     → old ≡ Some (report_bytes items []) → Appends old new (rows_bytes rows) → new ≡ Some text → text ≡ report_bytes items rows
 report-written items None new text rows begun appends ended = absurd cc
 report-written items (Some xs) None text rows begun appends ended = absurd appends
@@ -71,7 +71,7 @@ report-written items (Some xs) (Some ys) text rows begun appends ended =
     sym last ∙ appends ∙ ap (λ (bs : List ℕ). bs ++ rows_bytes rows) (first ∙ append-nil head)
 
 -- the headers, and then the texts of the rows
-pub report-joined : (items : List ItemForm) (begun : Option (List ℕ)) (text whole bytes : List ℕ) (rows : List (List Summary))
+pub report-joined : (items : List SelectItem) (begun : Option (List ℕ)) (text whole bytes : List ℕ) (rows : List (List CellValue))
     → begun ≡ Some (report_bytes items []) → begun ≡ Some text → whole ≡ text ++ bytes → bytes ≡ rows_bytes rows → whole ≡ report_bytes items rows
 report-joined items None text whole bytes rows first is all of_rows = absurd cc
 report-joined items (Some xs) text whole bytes rows first is all of_rows =

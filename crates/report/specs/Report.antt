@@ -3,14 +3,14 @@ use Rattle.std.specs.List.{flat_map}
 use Rattle.std.specs.Prelude.{◌+◌, ◌<◌, ◌≤◌, ◌^◌, ℕ, List, ◌∷◌, length, max, []}
 use Rattle.semantics.specs.Columns.{Field, names_of}
 use Rattle.semantics.specs.declared.line_fault.LineFault.{LineFault}
-use Rattle.semantics.specs.Syntax.{TreeForm}
-use Rattle.semantics.specs.Found.{Found}
-use Rattle.semantics.specs.Order.{rows_shown}
+use Rattle.semantics.specs.Syntax.{Query}
+use Rattle.semantics.specs.ResultRows.{ResultRow}
+use Rattle.semantics.specs.Order.{report_values}
 use Rattle.semantics.specs.Texts.{report_bytes, refused_line}
 
 -- the bytes of the report
-abbrev pub report_of : List Field → TreeForm → List Found → List ℕ
-report_of fields t found = report_bytes t.items (rows_shown fields t found)
+abbrev pub report_of : List Field → Query → List ResultRow → List ℕ
+report_of fields t found = report_bytes t.items (report_values fields t found)
 
 -- the bytes of the list of refused lines
 abbrev pub refusals_of : List Field → List (ℕ × LineFault) → List ℕ

@@ -1,7 +1,7 @@
 //! The rows of a report on the groups of an input.
 ghost use Rattle.std.specs.Prelude.{◌≡◌, All, IfOk, length, map};
 ghost use Rattle.tables.specs.Planned.{AreFittingUnder};
-ghost use Rattle.semantics.specs.Order.{rows_shown};
+ghost use Rattle.semantics.specs.Order.{report_values};
 ghost use Rattle.report_rows.specs.Shown.{cells_of};
 
 use query_plan::Plan;
@@ -28,7 +28,7 @@ use tables::Groups;
 pub fn arrange(alloc: Global, groups: &Groups, plan: &Plan) -> Result<Vec<ReportRow>, AllocError>
     requires { AreFittingUnder plan.now groups.now.found }
     ensures cells { IfOk result (λ rows.
-        map cells_of rows.items ≡ rows_shown plan.now.fields plan.now.query groups.now.found) }
+        map cells_of rows.items ≡ report_values plan.now.fields plan.now.query groups.now.found) }
     ensures wide { IfOk result (λ rows.
         All (λ row. length row.cells.items ≡ length plan.now.query.items) rows.items) }
 {

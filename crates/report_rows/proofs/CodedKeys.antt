@@ -14,11 +14,11 @@ use Rattle.query_ast.specs.declared.tree.Key.{Key}
 use Rattle.values.specs.Datum.{datum_of}
 use Rattle.semantics.specs.Values.{Datum, boolean, whole, text, null, value_order}
 use Rattle.semantics.specs.Columns.{Field}
-use Rattle.semantics.specs.Syntax.{KeyForm, TreeForm}
+use Rattle.semantics.specs.Syntax.{SortKey, Query}
 use Rattle.semantics.specs.Sets.{sets_of}
-use Rattle.semantics.specs.Found.{Found}
+use Rattle.semantics.specs.ResultRows.{ResultRow}
 use Rattle.semantics.specs.Types.{key_expression}
-use Rattle.semantics.specs.Order.{key_value, null_order, under_key, under_keys}
+use Rattle.semantics.specs.Order.{key_value, null_order, compare_by_key, compare_by_keys}
 use Rattle.query_plan.specs.Planned.{PlannedQuery}
 use Rattle.group_tables.proofs.Order.{value_antisymmetric}
 use Rattle.report_rows.specs.declared.coded_key.CodedKey.{CodedKey}
@@ -77,7 +77,7 @@ level true Greater e = absurd cc
 level false o e = e
 
 -- they are the same
-tied-values : (k : KeyForm) (a b : Datum) → under_key k a b ≡ Equal → a ≡ b
+tied-values : (k : SortKey) (a b : Datum) → compare_by_key k a b ≡ Equal → a ≡ b
 tied-values k null null e = refl
 tied-values k null (boolean b) e = absurd (null-apart k.nulls_first e)
 tied-values k null (whole n) e = absurd (null-apart k.nulls_first e)
@@ -97,7 +97,7 @@ tied-values k (text r) (text s) e = value_antisymmetric (text r) (text s) (level
 
 -- ---- keys that have the values of an earlier one
 
-same-there : (x : Found) (a b : ValueSource) → is_same_source a b ≡ true → value_there x a ≡ value_there x b
+same-there : (x : ResultRow) (a b : ValueSource) → is_same_source a b ≡ true → value_there x a ≡ value_there x b
 same-there x (KeyAt place) (KeyAt at) e = ap (λ (p : ℕ). slice_index_or x.1.key p null) (sym (at-place place at e))
 same-there x (KeyAt place) (CellAt at) e = absurd cc
 same-there x (KeyAt place) (Always value) e = absurd cc
@@ -108,7 +108,7 @@ same-there x (Always value) (KeyAt at) e = absurd cc
 same-there x (Always value) (CellAt at) e = absurd cc
 same-there x (Always value) (Always other) e = value_antisymmetric (datum_of value) (datum_of other) ((Equal-is (value_order (datum_of value) (datum_of other))).0 e)
 
-all-there : (x : Found) (first second : List ValueSource) → are_same_sources first second ≡ true → map (value_there x) first ≡ map (value_there x) second
+all-there : (x : ResultRow) (first second : List ValueSource) → are_same_sources first second ≡ true → map (value_there x) first ≡ map (value_there x) second
 all-there x [] [] e = refl
 all-there x [] (b ∷ others) e = absurd cc
 all-there x (a ∷ more) [] e = absurd cc
@@ -130,17 +130,17 @@ not-same (a ∷ more) (b ∷ others) other =
     ap (λ (t : Bool). is_same_source a b && t) (not-same more others (λ (e : length more ≡ length others). other (ap suc e))) ∙ none-both (is_same_source a b)
 
 -- one more key tells nothing where it has the values of another
-told-by : (cs : List CodedForm) (c : CodedForm) (x y : Found) → is_repeated cs c.1 ≡ true
-    → ordering_then (under_coded cs x y) (under_key c.0 (coded_value x c) (coded_value y c)) ≡ under_coded cs x y
+told-by : (cs : List CodedForm) (c : CodedForm) (x y : ResultRow) → is_repeated cs c.1 ≡ true
+    → ordering_then (under_coded cs x y) (compare_by_key c.0 (coded_value x c) (coded_value y c)) ≡ under_coded cs x y
 told-by [] c x y e = absurd cc
 told-by (b ∷ cs) c x y e =
-    let here = under_key b.0 (coded_value x b) (coded_value y b) in
+    let here = compare_by_key b.0 (coded_value x b) (coded_value y b) in
     let rest = under_coded cs x y in
-    let last = under_key c.0 (coded_value x c) (coded_value y c) in
-    let value : (z : Found) → are_same_sources b.1 c.1 ≡ true → coded_value z b ≡ coded_value z c = λ z same. ap (λ (vs : List Datum). slice_index_or vs z.0 null) (all-there z b.1 c.1 same) in
+    let last = compare_by_key c.0 (coded_value x c) (coded_value y c) in
+    let value : (z : ResultRow) → are_same_sources b.1 c.1 ≡ true → coded_value z b ≡ coded_value z c = λ z same. ap (λ (vs : List Datum). slice_index_or vs z.0 null) (all-there z b.1 c.1 same) in
     let nothing : here ≡ Equal → are_same_sources b.1 c.1 ≡ true → last ≡ Equal =
     λ tied same.
-    ap (under_key c.0 (coded_value x c)) (sym (value y same) ∙ sym (tied-values b.0 (coded_value x b) (coded_value y b) tied) ∙ value x same)
+    ap (compare_by_key c.0 (coded_value x c)) (sym (value y same) ∙ sym (tied-values b.0 (coded_value x b) (coded_value y b) tied) ∙ value x same)
     ∙ tied_itself (under_key-total c.0) (coded_value x c) in
     elim here as (λ (o : Ordering). here ≡ o → ordering_then (ordering_then o rest) last ≡ ordering_then o rest) [
       | Less ↦ λ _. refl
@@ -152,23 +152,23 @@ told-by (b ∷ cs) c x y e =
       | Greater ↦ λ _. refl
     ] refl
 
-coded-more : (cs : List CodedForm) (c : CodedForm) (x y : Found) → under_coded (cs ++ c ∷ []) x y ≡ ordering_then (under_coded cs x y) (under_key c.0 (coded_value x c) (coded_value y c))
-coded-more [] c x y = then-equal (under_key c.0 (coded_value x c) (coded_value y c))
+coded-more : (cs : List CodedForm) (c : CodedForm) (x y : ResultRow) → under_coded (cs ++ c ∷ []) x y ≡ ordering_then (under_coded cs x y) (compare_by_key c.0 (coded_value x c) (coded_value y c))
+coded-more [] c x y = then-equal (compare_by_key c.0 (coded_value x c) (coded_value y c))
 coded-more (b ∷ cs) c x y =
-    let here = under_key b.0 (coded_value x b) (coded_value y b) in
-    ap (ordering_then here) (coded-more cs c x y) ∙ then-again here (under_coded cs x y) (under_key c.0 (coded_value x c) (coded_value y c))
+    let here = compare_by_key b.0 (coded_value x b) (coded_value y b) in
+    ap (ordering_then here) (coded-more cs c x y) ∙ then-again here (under_coded cs x y) (compare_by_key c.0 (coded_value x c) (coded_value y c))
 
-keys-more : (fields : List Field) (t : TreeForm) (ks : List KeyForm) (k : KeyForm) (x y : Found)
-    → under_keys fields t (ks ++ k ∷ []) x y ≡ ordering_then (under_keys fields t ks x y) (under_key k (key_value fields t x k) (key_value fields t y k))
-keys-more fields t [] k x y = then-equal (under_key k (key_value fields t x k) (key_value fields t y k))
+keys-more : (fields : List Field) (t : Query) (ks : List SortKey) (k : SortKey) (x y : ResultRow)
+    → compare_by_keys fields t (ks ++ k ∷ []) x y ≡ ordering_then (compare_by_keys fields t ks x y) (compare_by_key k (key_value fields t x k) (key_value fields t y k))
+keys-more fields t [] k x y = then-equal (compare_by_key k (key_value fields t x k) (key_value fields t y k))
 keys-more fields t (j ∷ ks) k x y =
-    let here = under_key j (key_value fields t x j) (key_value fields t y j) in
-    ap (ordering_then here) (keys-more fields t ks k x y) ∙ then-again here (under_keys fields t ks x y) (under_key k (key_value fields t x k) (key_value fields t y k))
+    let here = compare_by_key j (key_value fields t x j) (key_value fields t y j) in
+    ap (ordering_then here) (keys-more fields t ks k x y) ∙ then-again here (compare_by_keys fields t ks x y) (compare_by_key k (key_value fields t x k) (key_value fields t y k))
 
 -- so a key that is left out where it has the values of another tells what it tells behind the others
-with-key-tells : (cs : List CodedForm) (c : CodedForm) (x y : Found) → under_coded (with_key cs c) x y ≡ ordering_then (under_coded cs x y) (under_key c.0 (coded_value x c) (coded_value y c))
+with-key-tells : (cs : List CodedForm) (c : CodedForm) (x y : ResultRow) → under_coded (with_key cs c) x y ≡ ordering_then (under_coded cs x y) (compare_by_key c.0 (coded_value x c) (coded_value y c))
 with-key-tells cs c x y =
-    elim (is_repeated cs c.1) as (λ (t : Bool). is_repeated cs c.1 ≡ t → under_coded (cond t cs (cs ++ c ∷ [])) x y ≡ ordering_then (under_coded cs x y) (under_key c.0 (coded_value x c) (coded_value y c))) [
+    elim (is_repeated cs c.1) as (λ (t : Bool). is_repeated cs c.1 ≡ t → under_coded (cond t cs (cs ++ c ∷ [])) x y ≡ ordering_then (under_coded cs x y) (compare_by_key c.0 (coded_value x c) (coded_value y c))) [
       | true ↦ λ e. sym (told-by cs c x y e)
       | false ↦ λ _. coded-more cs c x y
     ] refl
@@ -181,26 +181,26 @@ telling-more plan keys i key kept new sources within is made each told x y at_x 
     let fields = plan.fields in
     let t = plan.query in
     let k = key_form key in
-    let value : (z : Found) → z.0 < length (sets_of fields t) → coded_value z (k, sources) ≡ key_value fields t z k = λ z at. value-by-set plan k sources z each at in
+    let value : (z : ResultRow) → z.0 < length (sets_of fields t) → coded_value z (k, sources) ≡ key_value fields t z k = λ z at. value-by-set plan k sources z each at in
     let keys_are : map key_form (take (i + 1) keys) ≡ map key_form (take i keys) ++ k ∷ [] =
     map_more key_form keys i key within ∙ (λ j. map key_form (take i keys) ++ key_form (sym is j) ∷ []) in
     ap (λ (cs : List CodedForm). under_coded cs x y) made
     ∙ with-key-tells kept (k, sources) x y
-    ∙ (λ j. ordering_then (told x y at_x at_y j) (under_key k (value x at_x j) (value y at_y j)))
+    ∙ (λ j. ordering_then (told x y at_x at_y j) (compare_by_key k (value x at_x j) (value y at_y j)))
     ∙ sym (keys-more fields t (map key_form (take i keys)) k x y)
-    ∙ ap (λ (ks : List KeyForm). under_keys fields t ks x y) (sym keys_are)
+    ∙ ap (λ (ks : List SortKey). compare_by_keys fields t ks x y) (sym keys_are)
 
 -- keys that tell what all keys of ORDER BY tell are enough
-pub enough-telling : (cs : List CodedForm) (fields : List Field) (t : TreeForm) → AreTelling cs t.keys fields t → AreEnough cs fields t
+pub enough-telling : (cs : List CodedForm) (fields : List Field) (t : Query) → AreTelling cs t.keys fields t → AreEnough cs fields t
 enough-telling cs fields t told x y fx fy = ap (λ (o : Ordering). ordering_then o (by_columns fields t x y)) (told x y fx.0 fy.0)
 
 -- ---- default keys
 
-abbrev IsDefault : KeyForm → Type 0
+abbrev IsDefault : SortKey → Type 0
 IsDefault k = (k.descending ≡ false) × (k.nulls_first ≡ false)
 
 -- under a default key values stand as they do
-default-order : (k : KeyForm) → IsDefault k → (a b : Datum) → under_key k a b ≡ value_order a b
+default-order : (k : SortKey) → IsDefault k → (a b : Datum) → compare_by_key k a b ≡ value_order a b
 default-order k d null null = refl
 default-order k d null (boolean b) = ap null_order d.1
 default-order k d null (whole n) = ap null_order d.1
@@ -218,12 +218,12 @@ default-order k d (text r) (boolean b) = rw d.0 refl
 default-order k d (text r) (whole n) = rw d.0 refl
 default-order k d (text r) (text s) = rw d.0 refl
 
-none-differ : (place : ℕ) (ks : List KeyForm) → under_values place ks [] [] ≡ Equal
+none-differ : (place : ℕ) (ks : List SortKey) → under_values place ks [] [] ≡ Equal
 none-differ place [] = refl
 none-differ place (k ∷ ks) = none-differ (suc place) ks
 
 -- default keys for the first values of lists that are equally long tell nothing that the lists do not
-tell-nothing : (ks : List KeyForm) → AllByRecursion IsDefault ks → (xs ys : List Datum) → length xs ≡ length ys
+tell-nothing : (ks : List SortKey) → AllByRecursion IsDefault ks → (xs ys : List Datum) → length xs ≡ length ys
     → ordering_then (under_values 0 ks xs ys) (slice_cmp value_order xs ys) ≡ slice_cmp value_order xs ys
 tell-nothing [] all xs ys long = refl
 tell-nothing (k ∷ ks) all [] [] long = ap (λ (o : Ordering). ordering_then o Equal) (none-differ 1 ks)
@@ -252,18 +252,18 @@ are-default place (c ∷ cs) e =
       are-default (suc place) cs (second-holds (is_default_at place c) (are_default_from (suc place) cs) e),
     )
 
-key-at : (x : Found) (place : ℕ) (source : ValueSource) → is_key_at place source ≡ true → value_there x source ≡ slice_index_or x.1.key place null
+key-at : (x : ResultRow) (place : ℕ) (source : ValueSource) → is_key_at place source ≡ true → value_there x source ≡ slice_index_or x.1.key place null
 key-at x place (KeyAt at) e = ap (λ (p : ℕ). slice_index_or x.1.key p null) (at-place place at e)
 key-at x place (CellAt at) e = absurd cc
 key-at x place (Always value) e = absurd cc
 
 -- a row of the first grouping set has its value at the first source
-first-at : (x : Found) → x.0 ≡ 0 → (place : ℕ) (sources : List ValueSource) → is_first_at place sources ≡ true → slice_index_or (map (value_there x) sources) x.0 null ≡ slice_index_or x.1.key place null
+first-at : (x : ResultRow) → x.0 ≡ 0 → (place : ℕ) (sources : List ValueSource) → is_first_at place sources ≡ true → slice_index_or (map (value_there x) sources) x.0 null ≡ slice_index_or x.1.key place null
 first-at x first place [] e = absurd cc
 first-at x first place (source ∷ sources) e = ap (λ (n : ℕ). slice_index_or (map (value_there x) (source ∷ sources)) n null) first ∙ key-at x place source e
 
 -- under such keys rows of the first grouping set stand as by the first values of the keys of their groups
-under-first : (x y : Found) → x.0 ≡ 0 → y.0 ≡ 0 → (place : ℕ) (cs : List CodedForm) → are_default_from place cs ≡ true → under_coded cs x y ≡ under_values place (map (λ c. c.0) cs) x.1.key y.1.key
+under-first : (x y : ResultRow) → x.0 ≡ 0 → y.0 ≡ 0 → (place : ℕ) (cs : List CodedForm) → are_default_from place cs ≡ true → under_coded cs x y ≡ under_values place (map (λ c. c.0) cs) x.1.key y.1.key
 under-first x y first_x first_y place [] e = refl
 under-first x y first_x first_y place (c ∷ cs) e =
     let here = first-holds (is_default_at place c) (are_default_from (suc place) cs) e in
@@ -272,21 +272,21 @@ under-first x y first_x first_y place (c ∷ cs) e =
     let value_x = first-at x first_x place c.1 is_at in
     let value_y = first-at y first_y place c.1 is_at in
     let rest = under-first x y first_x first_y (suc place) cs later in
-    λ i. ordering_then (under_key c.0 (value_x i) (value_y i)) (rest i)
+    λ i. ordering_then (compare_by_key c.0 (value_x i) (value_y i)) (rest i)
 
 -- ---- what is left of the keys
 
 -- under keys rows stand as under the first of them, and then under those behind
-parted : (x y : Found) (count : ℕ) (cs : List CodedForm) → under_coded cs x y ≡ ordering_then (under_coded (take count cs) x y) (under_coded (drop count cs) x y)
+parted : (x y : ResultRow) (count : ℕ) (cs : List CodedForm) → under_coded cs x y ≡ ordering_then (under_coded (take count cs) x y) (under_coded (drop count cs) x y)
 parted x y zero cs = refl
 parted x y (suc count) [] = refl
 parted x y (suc count) (c ∷ cs) =
-    let here = under_key c.0 (coded_value x c) (coded_value y c) in
+    let here = compare_by_key c.0 (coded_value x c) (coded_value y c) in
     ap (ordering_then here) (parted x y count cs)
     ∙ then-again here (under_coded (take count cs) x y) (under_coded (drop count cs) x y)
 
 -- with one grouping set the keys in front of those that begin the default order are enough
-pub enough-in-front : (cs : List CodedForm) (fields : List Field) (t : TreeForm) (count : ℕ) → AreTelling cs t.keys fields t → length (sets_of fields t) ≡ 1 → are_default_behind count cs ≡ true → AreEnough (take count cs) fields t
+pub enough-in-front : (cs : List CodedForm) (fields : List Field) (t : Query) (count : ℕ) → AreTelling cs t.keys fields t → length (sets_of fields t) ≡ 1 → are_default_behind count cs ≡ true → AreEnough (take count cs) fields t
 enough-in-front cs fields t count told single e x y fx fy =
     let first = under_coded (take count cs) x y in
     let behind = drop count cs in

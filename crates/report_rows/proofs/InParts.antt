@@ -10,7 +10,7 @@ use Rattle.std.proofs.lemmas.Bool.{cases_eq}
 use Rattle.std.proofs.lemmas.Nat.{div-add-mod'}
 use Rattle.std.proofs.lemmas.List.{drop-drop, length-drop, map-append, take-append-drop}
 use Rattle.std.proofs.lemmas.List.Sorted.{IsPermutation-append, IsPermutation-refl}
-use Rattle.semantics.specs.Found.{Found}
+use Rattle.semantics.specs.ResultRows.{ResultRow}
 use Rattle.report_rows.specs.Parts.{AreMade, AreOfParts, items_of}
 use Rattle.report_rows.specs.Inside.SortEntries.{AreEntriesOf, AreEntriesOfParts, CodedForm, EntryForm, IsCodableRow, entry_at, entry_form}
 use Rattle.std.specs.List.{AllByRecursion}
@@ -46,16 +46,16 @@ module _ {X Y : Type 0} (IsOf : List X → List Y → Type 0) where
       (both (take size list) (drop size list) part.items (flat_map items_of parts) of-parts.0 (parts-joined none both size (drop size list) parts of-parts.1 made))
   parts-joined none both size list (Err e ∷ parts) of-parts made = absurd made
 
-pub all-both : (P : Found → Type 0) (xs us : List Found) → AllByRecursion P xs → AllByRecursion P us → AllByRecursion P (xs ++ us)
+pub all-both : (P : ResultRow → Type 0) (xs us : List ResultRow) → AllByRecursion P xs → AllByRecursion P us → AllByRecursion P (xs ++ us)
 all-both P [] us a b = b
 all-both P (x ∷ xs) us a b = (a.0, all-both P xs us a.1 b)
 
 -- entries that are made in parts are those of all rows
-pub ranks-joined : (cs : List CodedForm) (size : ℕ) (rows : List Found) (parts : List (Result (Vec SortEntry) AllocError)) → AreEntriesOfParts cs size rows parts → AreMade parts
+pub ranks-joined : (cs : List CodedForm) (size : ℕ) (rows : List ResultRow) (parts : List (Result (Vec SortEntry) AllocError)) → AreEntriesOfParts cs size rows parts → AreMade parts
     → AreEntriesOf cs rows (flat_map items_of parts)
 ranks-joined cs = parts-joined (AreEntriesOf cs) (record { codable = tt; entries = IsPermutation-refl [] }) both
   where
-    both : (xs us : List Found) (ys vs : List SortEntry) → AreEntriesOf cs xs ys → AreEntriesOf cs us vs → AreEntriesOf cs (xs ++ us) (ys ++ vs)
+    both : (xs us : List ResultRow) (ys vs : List SortEntry) → AreEntriesOf cs xs ys → AreEntriesOf cs us vs → AreEntriesOf cs (xs ++ us) (ys ++ vs)
     both xs us ys vs p q = record {
       codable = all-both (IsCodableRow cs) xs us p.codable q.codable;
       entries =

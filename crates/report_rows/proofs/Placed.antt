@@ -1,7 +1,7 @@
 -- The codes of keys, one after the other, and the code of a row.
 use Rattle.std.proofs.Common.{◌≡◌, ◌∙◌, ◌+◌, ◌<◌, ◌++◌, ℕ, List, [], ◌∷◌, drop, get_or, length, map, OnOk, Result, Ok, Err, append_assoc, ap, sym}
 use Rattle.std.proofs.lemmas.List.{at_drop_more}
-use Rattle.semantics.specs.Found.{Found}
+use Rattle.semantics.specs.ResultRows.{ResultRow}
 use Rattle.semantics.specs.Values.{Datum}
 use Rattle.sort_keys.specs.Codes.{index_code, values_code}
 use Rattle.report_rows.specs.declared.coded_key.CodedKey.{CodedKey}
@@ -12,7 +12,7 @@ pub keys-next : (keys : List CodedKey) (place : ℕ) (key : CodedKey) → place 
 keys-next keys place key within here = at_drop_more (λ (ks : List CodedKey). ks) keys place key within ∙ ap (λ (k : CodedKey). k ∷ drop (place + 1) keys) (sym here)
 
 -- one code more
-pub code-next : (row : Found) (all front new : List ℕ) (keys : List CodedKey) (place : ℕ) (key : CodedKey) → drop place keys ≡ key ∷ drop (place + 1) keys
+pub code-next : (row : ResultRow) (all front new : List ℕ) (keys : List CodedKey) (place : ℕ) (key : CodedKey) → drop place keys ≡ key ∷ drop (place + 1) keys
     → new ≡ front ++ coded_code row (coded_form key) → front ++ keys_code row (map coded_form (drop place keys)) ≡ all
     → new ++ keys_code row (map coded_form (drop (place + 1) keys)) ≡ all
 code-next row all front new keys place key here made so =
@@ -23,7 +23,7 @@ code-next row all front new keys place key here made so =
     ∙ so
 
 -- the code of a row, which is put together part by part
-pub row-whole : (cs : List CodedForm) (row : Found) (key : List Datum) (s0 s1 s2 s3 s4 : List ℕ) → s0 ≡ [] → s1 ≡ s0 ++ keys_code row cs → s2 ≡ s1 ++ index_code row.0 → s3 ≡ s2 ++ values_code key → s4 ≡ s3
+pub row-whole : (cs : List CodedForm) (row : ResultRow) (key : List Datum) (s0 s1 s2 s3 s4 : List ℕ) → s0 ≡ [] → s1 ≡ s0 ++ keys_code row cs → s2 ≡ s1 ++ index_code row.0 → s3 ≡ s2 ++ values_code key → s4 ≡ s3
     → key ≡ row.1.key → s4 ≡ row_code cs row
 row-whole cs row key s0 s1 s2 s3 s4 none first second third last same_key =
     last

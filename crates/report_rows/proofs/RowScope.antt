@@ -12,14 +12,14 @@ use Rattle.std.proofs.lemmas.Slice.Zip.{all_zipped_more}
 use Rattle.std.proofs.lemmas.List.Elements.{recursion_from_All}
 use Rattle.semantics.specs.declared.truth.Truth.TheVariants.{True}
 use Rattle.semantics.specs.Values.{Datum, null}
-use Rattle.semantics.specs.Syntax.{ExpressionForm, PredicateForm, name, grouping, function}
+use Rattle.semantics.specs.Syntax.{Expression, Predicate, name, grouping, function}
 use Rattle.semantics.specs.Conditions.{Valuation, truth}
 use Rattle.semantics.specs.Sets.{grouping_places, sets_of}
 use Rattle.semantics.specs.SetFunctions.{functions_of, place_among}
-use Rattle.semantics.specs.Aggregates.{Summary, plain}
+use Rattle.semantics.specs.Aggregates.{CellValue, plain}
 use Rattle.semantics.specs.Groups.{Key}
-use Rattle.semantics.specs.Found.{Found, set_of}
-use Rattle.semantics.specs.Rows.{cell_value, expression_shown, row_value}
+use Rattle.semantics.specs.ResultRows.{ResultRow, set_of}
+use Rattle.semantics.specs.Rows.{cell_value, expression_value, value_in_row}
 use Rattle.query_typecheck.specs.declared.scope.Clause.TheVariants as clause
 use Rattle.query_typecheck.specs.Typing.{IsTypedPredicate}
 use Rattle.query_eval.specs.declared.condition.OperandSource.TheVariants as value
@@ -56,14 +56,14 @@ behind-at n values i = unwrap_or-slice_get values (n + i) null ∙ sym (get_or-d
 below-is : (i n m : ℕ) → i < n → m ≡ n → nat_lt i m ≡ true
 below-is i n m lt e = grind (arith, nat_tests)
 
-pub key-source : (plan : PlannedQuery) (set : List ℕ) (e : ExpressionForm) (place : ℕ) → place < length set → IsSourceOf plan set e (KeyAt place)
+pub key-source : (plan : PlannedQuery) (set : List ℕ) (e : Expression) (place : ℕ) → place < length set → IsSourceOf plan set e (KeyAt place)
     → GivesExpression (row_scope plan set) e (value.Value place)
 key-source plan set e place below is = record {
   value = λ values. key-at (length set) values place below ∙ ap cell_value (is (take (length set) values) (map plain (drop (length set) values)));
   there = λ values count. below-is place (length set + length (functions_of plan.fields plan.query)) (length values) (omega (arith, below)) count;
 }
 
-pub cell-source : (plan : PlannedQuery) (set : List ℕ) (e : ExpressionForm) (place : ℕ) → place < length (functions_of plan.fields plan.query) → IsSourceOf plan set e (CellAt place)
+pub cell-source : (plan : PlannedQuery) (set : List ℕ) (e : Expression) (place : ℕ) → place < length (functions_of plan.fields plan.query) → IsSourceOf plan set e (CellAt place)
     → GivesExpression (row_scope plan set) e (value.Value (length set + place))
 cell-source plan set e place below is = record {
   value = λ values. behind-at (length set) values place ∙ ap cell_value (is (take (length set) values) (map plain (drop (length set) values)));
@@ -73,52 +73,52 @@ cell-source plan set e place below is = record {
 -- ---- the values of a row
 
 -- its key has a value for each column of the set
-key-long : (plan : PlannedQuery) (row : Found) → FitsUnder plan row → length row.1.key ≡ length (set_of plan.fields plan.query row)
-key-long plan row fit = (recursion_from_All (λ (r : Found). length r.1.key ≡ length (set_of plan.fields plan.query r)) (row ∷ []) fit.keys).0
+key-long : (plan : PlannedQuery) (row : ResultRow) → FitsUnder plan row → length row.1.key ≡ length (set_of plan.fields plan.query row)
+key-long plan row fit = (recursion_from_All (λ (r : ResultRow). length r.1.key ≡ length (set_of plan.fields plan.query r)) (row ∷ []) fit.keys).0
 
 -- a cell that is the value of another cell has the same value
-same-cell : (cells : List Summary) (i : ℕ) → cell_value (unwrap_or (slice_get (map plain (map cell_value cells)) i) (plain null)) ≡ cell_value (unwrap_or (slice_get cells i) (plain null))
+same-cell : (cells : List CellValue) (i : ℕ) → cell_value (unwrap_or (slice_get (map plain (map cell_value cells)) i) (plain null)) ≡ cell_value (unwrap_or (slice_get cells i) (plain null))
 same-cell [] i = refl
 same-cell (c ∷ cells) zero = refl
 same-cell (c ∷ cells) (suc i) = same-cell cells i
 
-same-place : (cells : List Summary) (o : Option ℕ)
+same-place : (cells : List CellValue) (o : Option ℕ)
     → cell_value (unwrap_or (option_and_then (slice_get (map plain (map cell_value cells))) o) (plain null)) ≡ cell_value (unwrap_or (option_and_then (slice_get cells) o) (plain null))
 same-place cells None = refl
 same-place cells (Some i) = same-cell cells i
 
-same-shown : (plan : PlannedQuery) (set : List ℕ) (key : Key) (cells : List Summary) (e : ExpressionForm)
-    → cell_value (expression_shown plan.fields plan.query set key (map plain (map cell_value cells)) e) ≡ cell_value (expression_shown plan.fields plan.query set key cells e)
+same-shown : (plan : PlannedQuery) (set : List ℕ) (key : Key) (cells : List CellValue) (e : Expression)
+    → cell_value (expression_value plan.fields plan.query set key (map plain (map cell_value cells)) e) ≡ cell_value (expression_value plan.fields plan.query set key cells e)
 same-shown plan set key cells (name n) = refl
 same-shown plan set key cells (grouping ns) = refl
 same-shown plan set key cells (function f) = same-place cells (place_among plan.fields plan.query f)
 
 -- under the values of a row an expression has the value that the row shows for it
-value-row : (plan : PlannedQuery) (row : Found) → FitsUnder plan row → (e : ExpressionForm)
-    → (row_scope plan (set_of plan.fields plan.query row)).value (row_values row.1.key row.1.cells) e ≡ row_value plan.fields plan.query row e
+value-row : (plan : PlannedQuery) (row : ResultRow) → FitsUnder plan row → (e : Expression)
+    → (row_scope plan (set_of plan.fields plan.query row)).value (row_values row.1.key row.1.cells) e ≡ value_in_row plan.fields plan.query row e
 value-row plan row fit e =
     let set = set_of plan.fields plan.query row in
     let key = row.1.key in
     let values = map cell_value row.1.cells in
-    let shown = λ (k : Key) (ds : List Datum). cell_value (expression_shown plan.fields plan.query set k (map plain ds) e) in
+    let shown = λ (k : Key) (ds : List Datum). cell_value (expression_value plan.fields plan.query set k (map plain ds) e) in
     ap (λ (n : ℕ). shown (take n (key ++ values)) (drop n (key ++ values))) (sym (key-long plan row fit))
     ∙ (λ i. shown (take-append_seam key values i) (drop-append_seam key values i))
     ∙ same-shown plan set row.1.key row.1.cells e
 
 -- they are values of HAVING
-values-row : (plan : PlannedQuery) (row : Found) → FitsUnder plan row → AreValuesOf (row_scope plan (set_of plan.fields plan.query row)) (row_values row.1.key row.1.cells)
+values-row : (plan : PlannedQuery) (row : ResultRow) → FitsUnder plan row → AreValuesOf (row_scope plan (set_of plan.fields plan.query row)) (row_values row.1.key row.1.cells)
 values-row plan row fit = record {
   count = length-append row.1.key (map cell_value row.1.cells) ∙ (λ i. key-long plan row fit i + (length-map row.1.cells cell_value ∙ wide) i);
   kinds = λ grouped e k typed has. ap (is_of k) (value-row plan row fit e) ∙ shown-of plan.fields plan.query row grouped k e fit typed has;
 }
   where
     wide : length row.1.cells ≡ length (functions_of plan.fields plan.query)
-    wide = (recursion_from_All (λ (r : Found). length r.1.cells ≡ length (functions_of plan.fields plan.query)) (row ∷ []) fit.cells).0
+    wide = (recursion_from_All (λ (r : ResultRow). length r.1.cells ≡ length (functions_of plan.fields plan.query)) (row ∷ []) fit.cells).0
 
 -- ---- the condition of HAVING
 
 -- a condition that is bound for a grouping set is that of HAVING for its rows
-pub bound-having : (plan : PlannedQuery) (set : List ℕ) (p : PredicateForm) (c : Condition) → plan.query.having_condition ≡ Some p
+pub bound-having : (plan : PlannedQuery) (set : List ℕ) (p : Predicate) (c : Condition) → plan.query.having_condition ≡ Some p
     → IsTypedPredicate plan.fields (grouping_places plan.fields plan.query) clause.Having p
     → GivesPredicate (row_scope plan set) p c → IsSafeWhereTyped (row_scope plan set) p c → IsHavingFor plan set c
 bound-having plan set p c written typed gives safe = record {
@@ -127,11 +127,11 @@ bound-having plan set p c written typed gives safe = record {
       (subst (λ (s : List ℕ). AreValuesOf (row_scope plan s) (row_values row.1.key row.1.cells)) same (values-row plan row fit));
   worth = λ row fit same.
       let values = row_values row.1.key row.1.cells in
-      let shown : (row_scope plan set).value values ≡ row_value plan.fields plan.query row =
+      let shown : (row_scope plan set).value values ≡ value_in_row plan.fields plan.query row =
       (λ i. (row_scope plan (sym same i)).value values) ∙ (λ i e. value-row plan row fit e i) in
       gives values
       ∙ ap (λ (v : Valuation). truth v p) shown
-      ∙ ap (λ (o : Option PredicateForm). option_map_or (truth (row_value plan.fields plan.query row)) o True) (sym written);
+      ∙ ap (λ (o : Option Predicate). option_map_or (truth (value_in_row plan.fields plan.query row)) o True) (sym written);
 }
 
 -- the one of a grouping set

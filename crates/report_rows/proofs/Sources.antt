@@ -2,13 +2,13 @@
 use Rattle.std.proofs.Common.{◌≡◌, ◌∙◌, ◌+◌, ◌<◌, ◌++◌, ℕ, zero, suc, List, [], ◌∷◌, length, map, take, get_or, slice_index_or, refl, sym, ap, subst, add-one, arith}
 use Rattle.std.specs.Global.{Vec}
 use Rattle.std.proofs.lemmas.List.{get_or-map}
-use Rattle.semantics.specs.Syntax.{ExpressionForm, ItemForm, KeyForm}
+use Rattle.semantics.specs.Syntax.{Expression, SelectItem, SortKey}
 use Rattle.semantics.specs.Types.{key_expression}
 use Rattle.semantics.specs.Values.{Datum, null}
 use Rattle.semantics.specs.Sets.{sets_of}
-use Rattle.semantics.specs.Found.{Found}
+use Rattle.semantics.specs.ResultRows.{ResultRow}
 use Rattle.semantics.specs.Order.{key_value}
-use Rattle.semantics.specs.Rows.{cell_value, expression_shown}
+use Rattle.semantics.specs.Rows.{cell_value, expression_value}
 use Rattle.query_plan.specs.Planned.{PlannedQuery}
 use Rattle.report_rows.specs.declared.source.ValueSource.{ValueSource}
 use Rattle.report_rows.specs.Inside.SortEntries.{coded_value, value_there}
@@ -49,7 +49,7 @@ module _ (Are : List ℕ → List ValueSource → Type 0) where
 -- ---- the items of SELECT
 
 -- what a set has for the expressions of the items is what it has for the items
-pub items-each : (plan : PlannedQuery) (es : List ExpressionForm) (sets : List (List ℕ)) (all : List (Vec ValueSource)) → es ≡ map (λ item. item.expression) plan.query.items
+pub items-each : (plan : PlannedQuery) (es : List Expression) (sets : List (List ℕ)) (all : List (Vec ValueSource)) → es ≡ map (λ item. item.expression) plan.query.items
     → ForEachSet (AreSourcesFor plan es) sets all → AreSourcesOfEach plan sets all
 items-each plan es [] [] is each = tt
 items-each plan es [] (first ∷ all) is each = absurd each
@@ -57,8 +57,8 @@ items-each plan es (set ∷ sets) [] is each = absurd each
 items-each plan es (set ∷ sets) (first ∷ all) is each = (
   λ key cells.
       each.0 key cells
-      ∙ ap (map (expression_shown plan.fields plan.query set key cells)) is
-      ∙ map-twice (expression_shown plan.fields plan.query set key cells) (λ (item : ItemForm). item.expression) plan.query.items,
+      ∙ ap (map (expression_value plan.fields plan.query set key cells)) is
+      ∙ map-twice (expression_value plan.fields plan.query set key cells) (λ (item : SelectItem). item.expression) plan.query.items,
   items-each plan es sets all is each.1,
 )
 
@@ -71,12 +71,12 @@ sources-at plan sets all i within each = each-at (AreSourcesOf plan) sets all i 
 -- ---- the keys of ORDER BY
 
 -- the value that a row has for a key at such places is that of the key
-pub value-by-set : (plan : PlannedQuery) (k : KeyForm) (sources : List ValueSource) (row : Found) → AreSourcesBySet plan (key_expression plan.query.items k.expression) (sets_of plan.fields plan.query) sources
+pub value-by-set : (plan : PlannedQuery) (k : SortKey) (sources : List ValueSource) (row : ResultRow) → AreSourcesBySet plan (key_expression plan.query.items k.expression) (sets_of plan.fields plan.query) sources
     → row.0 < length (sets_of plan.fields plan.query) → coded_value row (k, sources) ≡ key_value plan.fields plan.query row k
 value-by-set plan k sources row each within =
     let sets = sets_of plan.fields plan.query in
     let there = shown_at row.1.key row.1.cells in
-    let shown = λ (set : List ℕ). expression_shown plan.fields plan.query set row.1.key row.1.cells (key_expression plan.query.items k.expression) in
+    let shown = λ (set : List ℕ). expression_value plan.fields plan.query set row.1.key row.1.cells (key_expression plan.query.items k.expression) in
     let value = λ (set : List ℕ). cell_value (shown set) in
     let values : map (value_there row) sources ≡ map value sets = sym (map-twice cell_value there sources) ∙ ap (map cell_value) (each row.1.key row.1.cells) ∙ map-twice cell_value shown sets in
     ap (λ (vs : List Datum). slice_index_or vs row.0 null) values

@@ -8,10 +8,10 @@ use Rattle.std.specs.Cmp.Derive.{point_total}
 use Rattle.std.specs.Cmp.Lexicographic.{lists_total}
 use Rattle.semantics.specs.Values.{Datum, boolean, whole, text, null, is_null, value_order}
 use Rattle.semantics.specs.Columns.{Field}
-use Rattle.semantics.specs.Syntax.{KeyForm, TreeForm}
+use Rattle.semantics.specs.Syntax.{SortKey, Query}
 use Rattle.group_tables.proofs.Order.{value_total}
-use Rattle.semantics.specs.Found.{Found}
-use Rattle.semantics.specs.Order.{before, grouping_values, key_value, null_order, under_key, under_keys}
+use Rattle.semantics.specs.ResultRows.{ResultRow}
+use Rattle.semantics.specs.Order.{row_order, grouping_values, key_value, null_order, compare_by_key, compare_by_keys}
 use Rattle.report_rows.specs.Inside.SortEntries.{EntryForm, by_code}
 use Rattle.sort_keys.proofs.Totals.{parts-total}
 
@@ -57,7 +57,7 @@ by-place false true false o tied = refl
 by-place false false true o tied = refl
 by-place false false false o tied = refl
 
-pub under_key-total : (k : KeyForm) → IsTotalOrder (under_key k)
+pub under_key-total : (k : SortKey) → IsTotalOrder (compare_by_key k)
 under_key-total k =
     subst (λ (order : Datum → Datum → Ordering). IsTotalOrder order)
     (λ i a b. by-place k.nulls_first (is_null a) (is_null b) (directed_order k.descending a b) (null-tied k.descending a b) i)
@@ -65,13 +65,13 @@ under_key-total k =
 
 -- ---- rows
 
-under_keys-total : (fields : List Field) (t : TreeForm) (ks : List KeyForm) → IsTotalOrder (under_keys fields t ks)
+under_keys-total : (fields : List Field) (t : Query) (ks : List SortKey) → IsTotalOrder (compare_by_keys fields t ks)
 under_keys-total fields t [] = point_total
-under_keys-total fields t (k ∷ ks) = then_total (on_total (λ (x : Found). key_value fields t x k) (under_key-total k)) (under_keys-total fields t ks)
+under_keys-total fields t (k ∷ ks) = then_total (on_total (λ (x : ResultRow). key_value fields t x k) (under_key-total k)) (under_keys-total fields t ks)
 
-pub before-total : (fields : List Field) (t : TreeForm) → IsTotalOrder (before fields t)
+pub before-total : (fields : List Field) (t : Query) → IsTotalOrder (row_order fields t)
 before-total fields t =
-    then_total (under_keys-total fields t t.keys) (then_total (on_total (λ (x : Found). x.0) nat_cmp_total) (on_total (grouping_values fields t) (lists_total value_total)))
+    then_total (under_keys-total fields t t.keys) (then_total (on_total (λ (x : ResultRow). x.0) nat_cmp_total) (on_total (grouping_values fields t) (lists_total value_total)))
 
 -- ---- rows beside sort keys
 

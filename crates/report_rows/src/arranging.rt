@@ -3,7 +3,7 @@ ghost use Rattle.std.specs.Prelude.{◌≡◌, ◌<◌, All, IfOk, length, map};
 ghost use Rattle.group_tables.specs.Found.{row_of};
 ghost use Rattle.group_tables.specs.Fitting.{AreFitting};
 ghost use Rattle.report_rows.specs.Planned.{HasSetUnder};
-ghost use Rattle.semantics.specs.Order.{rows_in_order, rows_shown};
+ghost use Rattle.semantics.specs.Order.{sorted_rows, report_values};
 ghost use Rattle.report_rows.specs.Shown.{cells_of};
 ghost use Rattle.report_rows.specs.Sources.{cells_at};
 
@@ -37,7 +37,7 @@ pub fn arranged_rows(
 ) -> Result<Vec<ReportRow>, AllocError>
     requires { AreFitting plan.now.fields plan.now.query (map row_of groups.now) }
     ensures cells { IfOk result (λ rows. map cells_of rows.items
-        ≡ rows_shown plan.now.fields plan.now.query (map row_of groups.now)) }
+        ≡ report_values plan.now.fields plan.now.query (map row_of groups.now)) }
     ensures wide { IfOk result (λ rows.
         All (λ row. length row.cells.items ≡ length plan.now.query.items) rows.items) }
 {
@@ -69,7 +69,7 @@ pub fn shown_groups<'a, E: Executor>(
     requires ready { E.ready executor.now }
     requires fit { AreFitting plan.now.fields plan.now.query (map row_of groups.now) }
     ensures shown { IfOk result (λ v. map (λ r. row_of r.now) v.items
-        ≡ rows_in_order plan.now.fields plan.now.query (map row_of groups.now)) }
+        ≡ sorted_rows plan.now.fields plan.now.query (map row_of groups.now)) }
     ensures sets { IfOk result (λ v. All (λ r. HasSetUnder plan.now (row_of r.now)) v.items) }
 {
     let unordered = rows_having_true(alloc, plan, groups)?;

@@ -5,7 +5,7 @@ ghost use Rattle.semantics.specs.Values.{null};
 ghost use Rattle.values.specs.Schema.{fields_of};
 ghost use Rattle.semantics.specs.Aggregates.{plain};
 ghost use Rattle.group_tables.specs.Cells.{summary_of};
-ghost use Rattle.semantics.specs.Rows.{cell_value, grouping_number, grouping_shown, is_rolled_up};
+ghost use Rattle.semantics.specs.Rows.{cell_value, grouping_number, value_of_grouping, is_rolled_up};
 ghost use Rattle.report_rows.specs.Inside.Having.{row_values};
 ghost use Rattle.report_rows.specs.Sources.{shown_at};
 
@@ -126,7 +126,7 @@ fn grouping_number(columns: &[Column], set: &[usize], names: &[Text]) -> u64
 
 /// What a row of a grouping set shows for GROUPING.
 pub(crate) fn grouping_value(columns: &[Column], set: &[usize], names: &[Text]) -> Value
-    ensures { datum_of result ≡ grouping_shown (fields_of columns.now) set.now names.now }
+    ensures { datum_of result ≡ value_of_grouping (fields_of columns.now) set.now names.now }
 {
     if names.len() > MAX_ARGUMENTS {
         return Value::Null;

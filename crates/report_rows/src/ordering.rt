@@ -5,7 +5,7 @@ ghost use Rattle.std.specs.List.Sorted.{IsPermutation, IsSortedBy};
 ghost use Rattle.std.specs.Ordering.{is_lt};
 ghost use Rattle.group_tables.specs.Found.{row_of};
 ghost use Rattle.group_tables.specs.Fitting.{AreFitting};
-ghost use Rattle.semantics.specs.Order.{before, in_order};
+ghost use Rattle.semantics.specs.Order.{row_order, sorted_by};
 ghost use Rattle.report_rows.specs.Parts.{AreMade, items_of};
 ghost use Rattle.report_rows.specs.Inside.SortEntries.{AreEntriesOf, AreEntriesOfParts, IsCodableRow, by_code, coded_form, entry_at, entry_form};
 
@@ -32,7 +32,7 @@ impl<'a, 'p, 'v> Operation for PutInOrder<'a, 'p, 'v> {
     ghost use Rattle.std.specs.Prelude.{◌≡◌, IfOk, map};
     ghost use Rattle.group_tables.specs.Found.{row_of};
     ghost use Rattle.group_tables.specs.Fitting.{AreFitting};
-    ghost use Rattle.semantics.specs.Order.{before, in_order};
+    ghost use Rattle.semantics.specs.Order.{row_order, sorted_by};
 
     type Output = Result<Vec<&'a (usize, Group)>, AllocError>;
 
@@ -40,12 +40,12 @@ impl<'a, 'p, 'v> Operation for PutInOrder<'a, 'p, 'v> {
         (map (λ r. row_of r.now) t.rows.items) };
 
     ghost can_give = { λ t result. IfOk result (λ v. map (λ r. row_of r.now) v.items
-        ≡ in_order (before t.plan.now.fields t.plan.now.query)
+        ≡ sorted_by (row_order t.plan.now.fields t.plan.now.query)
         (map (λ r. row_of r.now) t.rows.items)) };
 
     fn run_alone(self) -> Result<Vec<&'a (usize, Group)>, AllocError> {
         let PutInOrder { alloc, plan, rows } = self;
-        in_order(alloc, plan, rows)
+        sorted_by(alloc, plan, rows)
     }
 
     fn run_among<H: Threads + Sync>(
@@ -70,21 +70,21 @@ pub(crate) fn put_in_order<'a, E: Executor>(
     requires ready { E.ready executor.now }
     requires fit { AreFitting plan.now.fields plan.now.query (map (λ r. row_of r.now) rows.items) }
     ensures { IfOk result (λ v. map (λ r. row_of r.now) v.items
-        ≡ in_order (before plan.now.fields plan.now.query)
+        ≡ sorted_by (row_order plan.now.fields plan.now.query)
         (map (λ r. row_of r.now) rows.entry.items)) }
 {
     executor.perform(PutInOrder { alloc, plan, rows })
 }
 
 /// The same, by the calling thread alone.
-fn in_order<'a>(
+fn sorted_by<'a>(
     alloc: Global,
     plan: &PlanView<'_>,
     rows: Vec<&'a (usize, Group)>,
 ) -> Result<Vec<&'a (usize, Group)>, AllocError>
     requires { AreFitting plan.now.fields plan.now.query (map (λ r. row_of r.now) rows.items) }
     ensures { IfOk result (λ v. map (λ r. row_of r.now) v.items
-        ≡ in_order (before plan.now.fields plan.now.query)
+        ≡ sorted_by (row_order plan.now.fields plan.now.query)
         (map (λ r. row_of r.now) rows.entry.items)) }
 {
     let keys = coded_keys(alloc, plan)?;
@@ -105,11 +105,11 @@ fn in_order_among<'a, H: Threads + Sync>(
     requires fit { AreFitting plan.now.fields plan.now.query (map (λ r. row_of r.now) rows.items) }
     requires size { 0 < size }
     ensures { IfOk result (λ v. map (λ r. row_of r.now) v.items
-        ≡ in_order (before plan.now.fields plan.now.query)
+        ≡ sorted_by (row_order plan.now.fields plan.now.query)
         (map (λ r. row_of r.now) rows.entry.items)) }
 {
     if rows.len() <= size {
-        return in_order(alloc, plan, rows);
+        return sorted_by(alloc, plan, rows);
     }
     let keys = coded_keys(alloc, plan)?;
     let parts = parts_in_order(rt, alloc, keys.as_slice(), rows.as_slice(), size)?;

@@ -18,7 +18,7 @@ pub(crate) struct RowScope<'a, 'p> {
 }
 
 impl RowScope<'_, '_> {
-    ghost use Rattle.semantics.specs.Syntax.{ExpressionForm};
+    ghost use Rattle.semantics.specs.Syntax as syntax;
     ghost use Rattle.query_eval.specs.Binding.{GivesExpression};
     ghost use Rattle.report_rows.specs.Inside.Having.{row_scope};
     ghost use Rattle.report_rows.specs.Inside.Sources.{IsSourceOf, IsWithin};
@@ -27,7 +27,7 @@ impl RowScope<'_, '_> {
     fn value_source(&self, source: ValueSource) -> OperandSource
         requires { IsWithin (length self.now.set.now)
             (length (functions_of self.now.plan.now.fields self.now.plan.now.query)) source }
-        ensures { (e : ExpressionForm) → IsSourceOf self.now.plan.now self.now.set.now e source
+        ensures { (e : syntax.Expression) → IsSourceOf self.now.plan.now self.now.set.now e source
             → GivesExpression (row_scope self.now.plan.now self.now.set.now) e result }
     {
         match source {

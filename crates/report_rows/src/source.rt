@@ -6,9 +6,9 @@ ghost use Rattle.values.specs.Schema.{fields_of};
 ghost use Rattle.query_ast.specs.Syntax.{expression_form};
 ghost use Rattle.semantics.specs.Sets.{sets_of};
 ghost use Rattle.semantics.specs.SetFunctions.{functions_of};
-ghost use Rattle.semantics.specs.Aggregates.{Summary, plain};
+ghost use Rattle.semantics.specs.Aggregates.{CellValue, plain};
 ghost use Rattle.semantics.specs.Groups.{Key};
-ghost use Rattle.semantics.specs.Rows.{name_shown};
+ghost use Rattle.semantics.specs.Rows.{grouping_column_value};
 ghost use Rattle.report_rows.specs.Inside.Sources.{AreSourcesBySet, AreSourcesFor, IsSourceOf, IsWithin, expression_forms};
 ghost use Rattle.report_rows.specs.Sources.{AreSourcesOfEach, ForEachSet, shown_at, sources_at};
 
@@ -37,7 +37,7 @@ pub enum ValueSource {
 pub(crate) fn key_place(columns: &[Column], set: &[usize], name: &Text) -> Option<usize>
     ensures shown { (key : Key)
         → option_map_or (λ at. slice_index_or key at null) result null
-        ≡ name_shown (fields_of columns.now) set.now key name.now }
+        ≡ grouping_column_value (fields_of columns.now) set.now key name.now }
     ensures within { IfSome result (λ at. at < length set.now) }
 {
     match place_of(columns, name.as_str()) {
@@ -48,9 +48,9 @@ pub(crate) fn key_place(columns: &[Column], set: &[usize], name: &Text) -> Optio
 
 /// Where the rows of a grouping set have what they show for the column of a name.
 pub(crate) fn name_source(columns: &[Column], set: &[usize], name: &Text) -> ValueSource
-    ensures shown { (key : Key) (cells : List Summary)
+    ensures shown { (key : Key) (cells : List CellValue)
         → shown_at key cells result
-        ≡ plain (name_shown (fields_of columns.now) set.now key name.now) }
+        ≡ plain (grouping_column_value (fields_of columns.now) set.now key name.now) }
     ensures within { (functions : ℕ) → IsWithin (length set.now) functions result }
 {
     match key_place(columns, set, name) {

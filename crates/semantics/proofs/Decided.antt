@@ -4,7 +4,7 @@ use Rattle.std.specs.Prelude.{◌↔◌, IfErr, IfOk, IfSome, IsOk}
 use Rattle.semantics.specs.Columns.{Field}
 use Rattle.semantics.specs.Records.{refused_lines}
 use Rattle.semantics.specs.Run.{IsResourceFault, IsWithin, Leaves}
-use Rattle.semantics.specs.Syntax.{TreeForm}
+use Rattle.semantics.specs.Syntax.{Query}
 use Rattle.semantics.specs.declared.run_done.Done.{Done}
 use Rattle.semantics.specs.declared.run_fault.RunFault.{RunFault}
 use Rattle.semantics.specs.declared.run_fault.RunFault.TheVariants.{Reading, OutOfMemory, ThreadNotStarted, TooManyRefused, WritingReport, WritingRefused, WritingPart}
@@ -15,7 +15,7 @@ over limit most fields None is more = tt
 over limit most fields (Some input) is more =
     (λ no. let wrong = no in absurd cc, λ few. let at_most = subst (λ (x : Option ℕ). IsWithin x (length (refused_lines fields input))) is few in absurd (omega (arith, more, at_most)))
 
-pub decided : (result : Result Done RunFault) (limit : Option ℕ) (fields : List Field) (q : TreeForm) (input out_old out_new err_old err_new : Option (List ℕ))
+pub decided : (result : Result Done RunFault) (limit : Option ℕ) (fields : List Field) (q : Query) (input out_old out_new err_old err_new : Option (List ℕ))
     → IfOk result (λ done. IfSome input (λ bytes. done.refused ≡ length (refused_lines fields bytes)))
     → IfOk result (λ done. IsWithin limit done.refused)
     → IfErr result (λ fault. Leaves fault limit fields q input out_old out_new err_old err_new)

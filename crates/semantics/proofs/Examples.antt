@@ -9,12 +9,12 @@ use Rattle.semantics.specs.Columns.{Field, schema_of}
 use Rattle.semantics.specs.Lines.{lines}
 use Rattle.semantics.specs.Records.{decode_line, valid_records, refused_lines}
 use Rattle.semantics.specs.Sets.{sets_of}
-use Rattle.semantics.specs.Groups.{Row, keys, members}
+use Rattle.semantics.specs.Groups.{Record, keys, members}
 use Rattle.semantics.specs.Aggregates.{plain}
-use Rattle.semantics.specs.Found.{query_found}
+use Rattle.semantics.specs.ResultRows.{rows_before_having}
 use Rattle.semantics.specs.Faults.{query_faults}
 use Rattle.semantics.specs.Run.{report, refusals}
-use Rattle.semantics.specs.Syntax.{TreeForm, name, function, over_all, rollup}
+use Rattle.semantics.specs.Syntax.{Query, name, function, over_all, rollup}
 use Rattle.semantics.specs.Values.{whole, text, null}
 use Rattle.semantics.specs.declared.aggregate.Aggregate.TheVariants as aggregate
 use Rattle.semantics.specs.declared.kind.Kind.TheVariants as kind
@@ -28,7 +28,7 @@ columns-read : schema_of (codes "shop:text,cents:int") ≡ Ok fields
 columns-read = refl
 
 -- SELECT shop, SUM(cents) AS s FROM lines GROUP BY ROLLUP (shop)
-abbrev query : TreeForm
+abbrev query : Query
 query = record {
   items = record { expression = name (codes "shop"); alias = None }
       ∷ record { expression = function (over_all (aggregate.Sum (codes "cents"))); alias = Some (codes "s") } ∷ [];
@@ -50,7 +50,7 @@ input = codes "{\"shop\":\"Harbour\",\"cents\":5}\nnot JSON\n{\"shop\":\"Harbour
 four-lines : lines input ≡ codes "{\"shop\":\"Harbour\",\"cents\":5}" ∷ codes "not JSON" ∷ codes "{\"shop\":\"Harbour\",\"cents\":2}" ∷ codes "{\"cents\":1}" ∷ []
 four-lines = refl
 
-abbrev records : List Row
+abbrev records : List Record
 records = (text (codes "Harbour") ∷ whole (pos 5) ∷ []) ∷ (text (codes "Harbour") ∷ whole (pos 2) ∷ []) ∷ (null ∷ whole (pos 1) ∷ []) ∷ []
 
 -- 3. the valid records and the refused lines
@@ -67,7 +67,7 @@ two-sets : sets_of fields query ≡ (0 ∷ []) ∷ [] ∷ []
 two-sets = refl
 
 -- 8. the groups
-three-groups : query_found fields query records
+three-groups : rows_before_having fields query records
     ≡ (0, record { key = text (codes "Harbour") ∷ []; lines = 2; cells = plain (whole (pos 7)) ∷ [] })
     ∷ (0, record { key = null ∷ []; lines = 1; cells = plain (whole (pos 1)) ∷ [] })
     ∷ (1, record { key = []; lines = 3; cells = plain (whole (pos 8)) ∷ [] }) ∷ []

@@ -9,7 +9,7 @@ use Rattle.semantics.specs.Columns.{Field, schema_of}
 use Rattle.semantics.specs.Explanation.{explanation}
 use Rattle.semantics.specs.Faults.{query_faults}
 use Rattle.semantics.specs.Run.{report, refusals}
-use Rattle.semantics.specs.Syntax.{TreeForm, name, grouping, function, over_all, over_filtered, expression, literal, or_of, and_of, not_of, truth_test, compare, between, member, null_test, column, no_parts, part, set, rollup, cube, sets, no_groups, group}
+use Rattle.semantics.specs.Syntax.{Query, name, grouping, function, over_all, over_filtered, expression, literal, or_of, and_of, not_of, truth_test, compare, between, member, null_test, column, no_parts, part, set, rollup, cube, sets, no_groups, group}
 use Rattle.semantics.specs.Words.{reserved_word}
 use Rattle.semantics.specs.declared.aggregate.Aggregate.TheVariants as aggregate
 use Rattle.semantics.specs.declared.comparison.Op.TheVariants as op

@@ -1,10 +1,11 @@
--- The canonical text of a query, with one line for each production of its grammar.
+-- The canonical text of a query, with one line for each production of its grammar (ISO/IEC 9075-2,
+-- <query specification>). It is a text of that query (`reads_again` of query).
 use Rattle.std.specs.Fmt.{signed_decimal}
 use Rattle.std.specs.List.{flat_map}
 use Rattle.std.specs.Option.{option_map_or}
 use Rattle.std.specs.Prelude.{ℕ, Bool, true, false, Option, List, [], ◌∷◌, ◌++◌, map, codes, nat_lt, unwrap_or, slice_get, if◌then◌else◌}
 use Rattle.semantics.specs.Columns.{Field, names_of}
-use Rattle.semantics.specs.Syntax.{ExpressionForm, FunctionForm, OperandForm, PredicateForm, PredicateForms, ElementForm, ElementForms, ItemForm, KeyForm, TreeForm, name, grouping, function, over_all, over_filtered, expression, literal, or_of, and_of, not_of, truth_test, compare, between, member, null_test, column, no_parts, part, set, rollup, cube, sets, no_groups, group, element_forms}
+use Rattle.semantics.specs.Syntax.{Expression, SetFunction, Operand, Predicate, Predicates, GroupingElement, GroupingElements, SelectItem, SortKey, Query, name, grouping, function, over_all, over_filtered, expression, literal, or_of, and_of, not_of, truth_test, compare, between, member, null_test, column, no_parts, part, set, rollup, cube, sets, no_groups, group, element_forms}
 use Rattle.semantics.specs.Words.{name_text, quoted_text}
 use Rattle.semantics.specs.declared.aggregate.Aggregate.{Aggregate}
 use Rattle.semantics.specs.declared.comparison.Op.{Op}
@@ -75,7 +76,7 @@ not_text n = if n then codes "NOT " else []
 
 -- How tightly a predicate holds together: OR least, then AND, NOT and a truth test, and an atom
 -- most.
-abbrev pub precedence : PredicateForm → ℕ
+abbrev pub precedence : Predicate → ℕ
 precedence (or_of ps) = 0
 precedence (and_of ps) = 1
 precedence (not_of p) = 2
@@ -93,38 +94,47 @@ bracketed_below least has text = if nat_lt has least then in_brackets text else 
 
 abbrev mutual
   -- A name, a GROUPING or a set function.
-  pub expression_text : ExpressionForm → List ℕ
+  pub expression_text : Expression → List ℕ
   expression_text (name n) = name_text n
   expression_text (grouping ns) = codes "GROUPING(" ++ names_text ns ++ codes ")"
   expression_text (function f) = function_text f
 
   -- A set function, with its FILTER where it has one.
-  pub function_text : FunctionForm → List ℕ
+  pub function_text : SetFunction → List ℕ
   function_text (over_all f) = aggregate_text f
-  function_text (over_filtered f p) = aggregate_text f ++ codes " FILTER (WHERE " ++ predicate_text p ++ codes ")"
+  function_text (over_filtered f p) =
+      aggregate_text f ++ codes " FILTER (WHERE " ++ predicate_text p ++ codes ")"
 
   -- An expression or a literal.
-  pub operand_text : OperandForm → List ℕ
+  pub operand_text : Operand → List ℕ
   operand_text (expression e) = expression_text e
   operand_text (literal a) = literal_text a
 
   -- The places of parts ask: under OR for an AND or tighter, under AND for a NOT or tighter, under
   -- NOT for a truth test or an atom, in a truth test for an atom.
-  pub predicate_text : PredicateForm → List ℕ
+  pub predicate_text : Predicate → List ℕ
   predicate_text (or_of ps) = separated_texts (codes " OR ") (part_texts 1 ps)
   predicate_text (and_of ps) = separated_texts (codes " AND ") (part_texts 2 ps)
   predicate_text (not_of p) = codes "NOT " ++ bracketed_below 3 (precedence p) (predicate_text p)
-  predicate_text (truth_test p n t) = bracketed_below 4 (precedence p) (predicate_text p) ++ codes " IS " ++ not_text n ++ truth_text t
-  predicate_text (compare a c b) = operand_text a ++ codes " " ++ op_text c ++ codes " " ++ operand_text b
-  predicate_text (between a n b c) = operand_text a ++ codes " " ++ not_text n ++ codes "BETWEEN " ++ operand_text b ++ codes " AND " ++ operand_text c
-  predicate_text (member a n ls) = operand_text a ++ codes " " ++ not_text n ++ codes "IN " ++ in_brackets (comma_list (map literal_text ls))
+  predicate_text (truth_test p n t) =
+      bracketed_below 4 (precedence p) (predicate_text p) ++ codes " IS " ++ not_text n
+      ++ truth_text t
+  predicate_text (compare a c b) =
+      operand_text a ++ codes " " ++ op_text c ++ codes " " ++ operand_text b
+  predicate_text (between a n b c) =
+      operand_text a ++ codes " " ++ not_text n ++ codes "BETWEEN " ++ operand_text b
+      ++ codes " AND " ++ operand_text c
+  predicate_text (member a n ls) =
+      operand_text a ++ codes " " ++ not_text n ++ codes "IN "
+      ++ in_brackets (comma_list (map literal_text ls))
   predicate_text (null_test a n) = operand_text a ++ codes " IS " ++ not_text n ++ codes "NULL"
   predicate_text (column n) = name_text n
 
   -- The parts of an OR or an AND, in places that ask for this precedence.
-  pub part_texts : ℕ → PredicateForms → List (List ℕ)
+  pub part_texts : ℕ → Predicates → List (List ℕ)
   part_texts least no_parts = []
-  part_texts least (part p ps) = bracketed_below least (precedence p) (predicate_text p) ∷ part_texts least ps
+  part_texts least (part p ps) =
+      bracketed_below least (precedence p) (predicate_text p) ∷ part_texts least ps
 
 -- ---- groups
 
@@ -135,22 +145,23 @@ unit_text names = in_brackets (names_text names)
 
 abbrev mutual
   -- An element of GROUP BY.
-  pub group_text : ElementForm → List ℕ
+  pub group_text : GroupingElement → List ℕ
   group_text (set ns) = unit_text ns
   group_text (rollup us) = codes "ROLLUP " ++ in_brackets (comma_list (map unit_text us))
   group_text (cube us) = codes "CUBE " ++ in_brackets (comma_list (map unit_text us))
   group_text (sets gs) = codes "GROUPING SETS " ++ in_brackets (comma_list (group_texts gs))
 
   -- The elements of GROUPING SETS, in order.
-  pub group_texts : ElementForms → List (List ℕ)
+  pub group_texts : GroupingElements → List (List ℕ)
   group_texts no_groups = []
   group_texts (group g gs) = group_text g ∷ group_texts gs
 
 -- ---- the query
 
 -- An item: its expression, and its alias behind AS, where it has one.
-abbrev pub item_text : ItemForm → List ℕ
-item_text i = expression_text i.expression ++ option_map_or (λ n. codes " AS " ++ name_text n) i.alias []
+abbrev pub item_text : SelectItem → List ℕ
+item_text i =
+    expression_text i.expression ++ option_map_or (λ n. codes " AS " ++ name_text n) i.alias []
 
 -- Where NULL stands is written only where it is not the default: last under ASC, first under DESC.
 abbrev pub nulls_text : Bool → Bool → List ℕ
@@ -163,11 +174,13 @@ abbrev pub direction_text : Bool → List ℕ
 direction_text descending = if descending then codes " DESC" else []
 
 -- A key: its expression, its direction, and where NULL stands.
-abbrev pub key_text : KeyForm → List ℕ
-key_text k = expression_text k.expression ++ direction_text k.descending ++ nulls_text k.descending k.nulls_first
+abbrev pub key_text : SortKey → List ℕ
+key_text k =
+    expression_text k.expression ++ direction_text k.descending
+    ++ nulls_text k.descending k.nulls_first
 
 -- A clause of one predicate, where there is one.
-abbrev pub predicate_clause : List ℕ → Option PredicateForm → List ℕ
+abbrev pub predicate_clause : List ℕ → Option Predicate → List ℕ
 predicate_clause keywords written = option_map_or (λ p. keywords ++ predicate_text p) written []
 
 -- A clause of a list, where the list has an element.
@@ -180,7 +193,7 @@ abbrev pub group_by_text : Bool → List ℕ
 group_by_text distinct = if distinct then codes " GROUP BY DISTINCT " else codes " GROUP BY "
 
 -- The canonical text of a query.
-abbrev pub canonical_text : TreeForm → List ℕ
+abbrev pub canonical_text : Query → List ℕ
 canonical_text t =
     codes "SELECT " ++ comma_list (map item_text t.items) ++ codes " FROM lines"
     ++ predicate_clause (codes " WHERE ") t.where_condition
@@ -191,7 +204,7 @@ canonical_text t =
 -- ---- headers and sets
 
 -- The header of an item: its alias, or the canonical text of its expression where it has none.
-abbrev pub header_text : ItemForm → List ℕ
+abbrev pub header_text : SelectItem → List ℕ
 header_text i = unwrap_or i.alias (expression_text i.expression)
 
 -- The name of the column at a place, empty where there is none.

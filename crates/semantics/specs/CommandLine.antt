@@ -11,7 +11,8 @@ use Rattle.semantics.specs.Limits.{most_workers, max_piece_len}
 -- The text writes this number, of 64 bits, in decimal digits, before which a plus may stand.
 abbrev pub IsNumber : Text → ℕ → Type 0
 IsNumber text n =
-    IsNumeral 10 (without_leading_plus text) × (digits_value 10 (without_leading_plus text) < 2 ^ 64)
+    IsNumeral 10 (without_leading_plus text)
+    × (digits_value 10 (without_leading_plus text) < 2 ^ 64)
     × (n ≡ digits_value 10 (without_leading_plus text))
 
 -- The number that the text writes, where there is a text and it writes one.
@@ -23,7 +24,8 @@ IsNumberIn (Some text) None = (n : ℕ) → IsNumber text n → ⊥
 
 -- 1 to 64 workers, and pieces of 1 to 67,108,864 bytes.
 abbrev pub AreInRange : ℕ → ℕ → Type 0
-AreInRange workers piece = (1 ≤ workers) × (workers ≤ most_workers) × (1 ≤ piece) × (piece ≤ max_piece_len)
+AreInRange workers piece =
+    (1 ≤ workers) × (workers ≤ most_workers) × (1 ≤ piece) × (piece ≤ max_piece_len)
 
 -- A word of its own that has to be given.
 abbrev pub required_word : Text → Rule
@@ -37,21 +39,31 @@ required_option name = record (required_word name) { long = Some name }
 -- it is not given.
 abbrev pub number_option : Text → List Text → Rule
 number_option name values =
-    record (new_rule name) { long = Some name; value_names = 1; parser = Some (Unsigned 0 (2 ^ 64 - 1)); defaults = values }
+    record (new_rule name) {
+      long = Some name;
+      value_names = 1;
+      parser = Some (Unsigned 0 (2 ^ 64 - 1));
+      defaults = values;
+    }
 
 -- A flag `--NAME`, which takes no value.
 abbrev pub flag : Text → Rule
 flag name = record (new_rule name) { long = Some name; action = Some SetTrue }
 
 -- `jlreport --columns <SPEC> --query <TEXT> [--workers <N>] [--piece <BYTES>] [--max-refused <N>]
--- [--explain] [--partial] [--join] [--progress] <FILE>`, with 4 workers and pieces of 1,048,576 bytes where they are
--- not given; `--help` and `--version` ask for a text instead.
+-- [--explain] [--partial] [--join] [--progress] <FILE>`, with 4 workers and pieces of 1,048,576
+-- bytes where they are not given; `--help` and `--version` ask for a text instead.
 abbrev pub command : App
-command = fold with_rule (record (new_app (codes "jlreport")) { top = record (new_app (codes "jlreport")).top { has_version = true } }) (
+command =
+    fold with_rule (record (new_app (codes "jlreport")) {
+      top = record (new_app (codes "jlreport")).top { has_version = true };
+    }) (
     required_option (codes "columns") ∷ required_option (codes "query")
-    ∷ number_option (codes "workers") (codes "4" ∷ []) ∷ number_option (codes "piece") (codes "1048576" ∷ [])
+    ∷ number_option (codes "workers") (codes "4" ∷ [])
+    ∷ number_option (codes "piece") (codes "1048576" ∷ [])
     ∷ number_option (codes "max-refused") [] ∷ flag (codes "explain")
-    ∷ flag (codes "partial") ∷ flag (codes "join") ∷ flag (codes "progress") ∷ required_word (codes "file") ∷ [])
+    ∷ flag (codes "partial") ∷ flag (codes "join") ∷ flag (codes "progress")
+    ∷ required_word (codes "file") ∷ [])
 
 -- The first value that clap publishes for the argument of this name, for words under the command.
 abbrev pub value_of : Text → List Text → Option Text
@@ -72,7 +84,9 @@ IsSet name words = one_of name (matches_of command words) ≡ Some (codes "true"
 abbrev pub IsOutOfRange : List Text → Type 0
 IsOutOfRange words =
     (fault_of command words ≡ [])
-    × ((workers piece : ℕ) → IsNumberOf (codes "workers") words (Some workers) → IsNumberOf (codes "piece") words (Some piece)
+    × ((workers piece : ℕ)
+    → IsNumberOf (codes "workers") words (Some workers)
+    → IsNumberOf (codes "piece") words (Some piece)
     → AreInRange workers piece → ⊥)
 
 -- The answer's kind is that of the first fault that clap publishes for the words, or memory ran

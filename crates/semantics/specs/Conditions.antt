@@ -4,7 +4,7 @@ use Rattle.std.specs.Option.{option_and_then, option_map_or}
 use Rattle.std.specs.Prelude.{Bool, true, false, List, [], ◌∷◌, map, fold, if◌then◌else◌, ℕ, Option, filter, slice_get, unwrap_or}
 use Rattle.semantics.specs.Columns.{Field}
 use Rattle.semantics.specs.Names.{place_of}
-use Rattle.semantics.specs.Syntax.{ExpressionForm, OperandForm, PredicateForm, PredicateForms, name, expression, literal, or_of, and_of, not_of, truth_test, compare, between, member, null_test, column, no_parts, part, TreeForm, grouping, function}
+use Rattle.semantics.specs.Syntax.{Expression, Operand, Predicate, Predicates, name, expression, literal, or_of, and_of, not_of, truth_test, compare, between, member, null_test, column, no_parts, part, Query, grouping, function}
 use Rattle.semantics.specs.Truth.{conjunction, disjunction, negation}
 use Rattle.semantics.specs.Values.{Datum, boolean, whole, text, is_null, comparison, null}
 use Rattle.semantics.specs.declared.comparison.Op.TheVariants.{Eq, Le, Ge}
@@ -59,7 +59,7 @@ value_truth x = comparison Eq x (boolean true)
 
 -- The values of expressions.
 abbrev pub Valuation : Type 0
-Valuation = ExpressionForm → Datum
+Valuation = Expression → Datum
 
 -- The value of a literal.
 abbrev pub literal_value : Literal → Datum
@@ -68,31 +68,33 @@ literal_value (constant.Text t) = text t
 literal_value (constant.Truth b) = boolean b
 
 -- The value of an operand.
-abbrev pub operand_value : Valuation → OperandForm → Datum
+abbrev pub operand_value : Valuation → Operand → Datum
 operand_value v (expression e) = v e
 operand_value v (literal a) = literal_value a
 
 abbrev mutual
   -- The truth value of a predicate, where expressions have these values.
-  pub truth : Valuation → PredicateForm → Truth
+  pub truth : Valuation → Predicate → Truth
   truth v (or_of ps) = any_of (truths v ps)
   truth v (and_of ps) = all_of (truths v ps)
   truth v (not_of p) = negation (truth v p)
   truth v (truth_test p n t) = with_not n (known_truth (same_truth (truth v p) t))
   truth v (compare x o y) = comparison o (operand_value v x) (operand_value v y)
-  truth v (between x n y z) = with_not n (between_truth (operand_value v x) (operand_value v y) (operand_value v z))
+  truth v (between x n y z) =
+      with_not n (between_truth (operand_value v x) (operand_value v y) (operand_value v z))
   truth v (member x n ls) = with_not n (member_truth (operand_value v x) (map literal_value ls))
   truth v (null_test x n) = with_not n (known_truth (is_null (operand_value v x)))
   truth v (column n) = value_truth (v (name n))
 
   -- Those of the parts of an OR or an AND.
-  pub truths : Valuation → PredicateForms → List Truth
+  pub truths : Valuation → Predicates → List Truth
   truths v no_parts = []
   truths v (part p ps) = truth v p ∷ truths v ps
 
 -- The value of the column of a name in a record, NULL where there is no such column.
 abbrev pub column_value : List Field → List Datum → List ℕ → Datum
-column_value fields values n = unwrap_or (option_and_then (slice_get values) (place_of fields n)) null
+column_value fields values n =
+    unwrap_or (option_and_then (slice_get values) (place_of fields n)) null
 
 -- In WHERE a name is the record's value of its column. No GROUPING and no set function may stand
 -- there.
@@ -103,20 +105,20 @@ record_value fields values (function f) = null
 
 -- The truth value of a WHERE or of a FILTER for a record; names are columns in both. It is True
 -- if the clause is not written.
-abbrev pub where_truth : List Field → Option PredicateForm → List Datum → Truth
+abbrev pub where_truth : List Field → Option Predicate → List Datum → Truth
 where_truth fields p values = option_map_or (truth (record_value fields values)) p True
 
 -- Whether a record is kept: where the predicate is True, not where it is False or Unknown.
-abbrev pub is_kept : List Field → TreeForm → List Datum → Bool
+abbrev pub is_kept : List Field → Query → List Datum → Bool
 is_kept fields q values = same_truth (where_truth fields q.where_condition values) True
 
 -- The records that are kept.
-abbrev pub kept_records : List Field → TreeForm → List (List Datum) → List (List Datum)
+abbrev pub kept_records : List Field → Query → List (List Datum) → List (List Datum)
 kept_records fields q records = filter (is_kept fields q) records
 
 -- ---- FILTER (ISO/IEC 9075-2, <filter clause>)
 
 -- Whether a record passes a FILTER of this predicate: where it is True, not where it is False or
 -- Unknown.
-abbrev pub passes : List Field → PredicateForm → List Datum → Bool
+abbrev pub passes : List Field → Predicate → List Datum → Bool
 passes fields p values = same_truth (truth (record_value fields values) p) True

@@ -1,6 +1,6 @@
 -- What is wrong with a query under a schema: its faults, in the order in which they are told
--- (ISO/IEC 9075-2, <query specification>). A query is planned where there is none, and of several
--- the first is told.
+-- (ISO/IEC 9075-2, <query specification>). A query is planned if it has none; of several the first
+-- is told. It has none exactly if each of its clauses is typed (`typed_law` of query_typecheck).
 use Rattle.std.specs.List.{enumerate_from, flat_map, list_any}
 use Rattle.std.specs.Option.{option_map_or}
 use Rattle.std.specs.Prelude.{ℕ, nat_le, Bool, true, false, not, ◌&&◌, Option, Some, None, List, [], ◌∷◌, ◌++◌, map, length, take, is_some, if◌then◌else◌}
@@ -10,7 +10,7 @@ use Rattle.semantics.specs.Columns.{Field}
 use Rattle.semantics.specs.Names.{column_kind, place_of, aggregate_of, filter_of}
 use Rattle.semantics.specs.SetFunctions.{functions_of}
 use Rattle.semantics.specs.Sets.{expansion, grouping_names}
-use Rattle.semantics.specs.Syntax.{ExpressionForm, FunctionForm, OperandForm, PredicateForm, TreeForm, name, grouping, function, expression, literal, operands_of_atoms}
+use Rattle.semantics.specs.Syntax.{Expression, SetFunction, Operand, Predicate, Query, name, grouping, function, expression, literal, operands_of_atoms}
 use Rattle.semantics.specs.Types.{is_average, key_expression, operand_kind}
 use Rattle.semantics.specs.declared.aggregate.Aggregate.{Aggregate}
 use Rattle.semantics.specs.declared.kind.Kind.{Kind}
@@ -64,7 +64,8 @@ argument_of (aggregate.Avg x) = (x, kind.Int ∷ []) ∷ []
 abbrev pub typed_column_faults : List Field → List ℕ × List Kind → List QueryFault
 typed_column_faults fields (n, kinds) =
     column_faults fields n
-    ++ unless (option_map_or (λ k. list_any (same_kind k) kinds) (column_kind fields n) false) TypesDisagree
+    ++ unless (option_map_or (λ k. list_any (same_kind k) kinds) (column_kind fields n) false)
+    TypesDisagree
 
 -- The faults of the argument of a set function.
 abbrev pub argument_faults : List Field → Aggregate → List QueryFault
@@ -73,27 +74,27 @@ argument_faults fields a = flat_map (typed_column_faults fields) (argument_of a)
 -- ---- predicates
 
 -- The faults of an operand, given those of each expression. A literal has none.
-abbrev pub operand_faults : (ExpressionForm → List QueryFault) → OperandForm → List QueryFault
+abbrev pub operand_faults : (Expression → List QueryFault) → Operand → List QueryFault
 operand_faults of_expression (expression e) = of_expression e
 operand_faults of_expression (literal a) = []
 
 -- The faults of an atom with these operands: their own, and then that they are not of one type.
-abbrev pub atom_faults : (ExpressionForm → List QueryFault) → List Field
-    → List OperandForm → List QueryFault
+abbrev pub atom_faults : (Expression → List QueryFault) → List Field
+    → List Operand → List QueryFault
 atom_faults of_expression fields [] = []
 atom_faults of_expression fields (x ∷ xs) =
     flat_map (operand_faults of_expression) (x ∷ xs)
     ++ flat_map (λ y. agreement_faults (operand_kind fields x) (operand_kind fields y)) xs
 
 -- The faults of a predicate, given those of each expression.
-abbrev pub predicate_faults : (ExpressionForm → List QueryFault) → List Field
-    → PredicateForm → List QueryFault
+abbrev pub predicate_faults : (Expression → List QueryFault) → List Field
+    → Predicate → List QueryFault
 predicate_faults of_expression fields p =
     flat_map (atom_faults of_expression fields) (operands_of_atoms p)
 
 -- The faults of the predicate of a clause or a FILTER, where it is written.
-abbrev pub clause_faults : (ExpressionForm → List QueryFault) → List Field
-    → Option PredicateForm → List QueryFault
+abbrev pub clause_faults : (Expression → List QueryFault) → List Field
+    → Option Predicate → List QueryFault
 clause_faults of_expression fields None = []
 clause_faults of_expression fields (Some p) = predicate_faults of_expression fields p
 
@@ -101,21 +102,22 @@ clause_faults of_expression fields (Some p) = predicate_faults of_expression fie
 
 -- The faults of an expression over one record, as in WHERE and in a FILTER: names are columns, and
 -- neither GROUPING nor a set function may stand.
-abbrev pub record_faults : List Field → ExpressionForm → List QueryFault
+abbrev pub record_faults : List Field → Expression → List QueryFault
 record_faults fields (name n) = column_faults fields n
 record_faults fields (grouping ns) = FunctionNotAllowed ∷ []
 record_faults fields (function f) = FunctionNotAllowed ∷ []
 
 -- The faults of a set function: those of its argument, and then those of its FILTER; or that it is
 -- AVG, where the test says that AVG may not stand.
-abbrev pub function_faults : Bool → List Field → FunctionForm → List QueryFault
+abbrev pub function_faults : Bool → List Field → SetFunction → List QueryFault
 function_faults may_average fields f =
     if is_average (aggregate_of f) && not may_average then FunctionNotAllowed ∷ []
-    else argument_faults fields (aggregate_of f) ++ clause_faults (record_faults fields) fields (filter_of f)
+    else argument_faults fields (aggregate_of f)
+    ++ clause_faults (record_faults fields) fields (filter_of f)
 
 -- The faults of an expression over a group, as in SELECT, HAVING and ORDER BY: names outside of set
 -- functions are among those in GROUP BY, which are given. The test says whether AVG may stand.
-abbrev pub group_faults : Bool → List Field → List (List ℕ) → ExpressionForm → List QueryFault
+abbrev pub group_faults : Bool → List Field → List (List ℕ) → Expression → List QueryFault
 group_faults may_average fields groups (name n) = grouped_faults fields groups n
 group_faults may_average fields groups (grouping ns) = flat_map (grouped_faults fields groups) ns
 group_faults may_average fields groups (function f) = function_faults may_average fields f
@@ -132,7 +134,7 @@ header_faults headers =
 -- BY, where names are columns; that it stands for more than 256 sets; in the items of SELECT, where
 -- alone AVG may stand; in their headers; in HAVING; in ORDER BY, where a key that is an alias
 -- stands for its item; and that there are more than 64 different set functions.
-unfoldable pub query_faults : List Field → TreeForm → List QueryFault
+unfoldable pub query_faults : List Field → Query → List QueryFault
 query_faults fields q =
     let groups = grouping_names q in
     clause_faults (record_faults fields) fields q.where_condition

@@ -30,32 +30,45 @@ pub record Limits : Type 0 where
   pub sets : ℕ
 
 -- The limits of the language.
-abbrev pub standard : Limits
-standard = record { items = 64; arguments = 8; literals = 64; levels = 64; sets = 16 }
+abbrev pub language_limits : Limits
+language_limits = record { items = 64; arguments = 8; literals = 64; levels = 64; sets = 16 }
 
 -- A relation that derives a value from the first of some tokens, with those that follow them.
 abbrev pub Derivation : Type 0 → Type 1
 Derivation A = List Token → A → List Token → Type 0
 
 -- { sep item }
-pub data IsRepeated {A : Type 0} (sep : Token) (IsPart : Derivation A) : List Token → List A → List Token → Type 0 where
+pub data IsRepeated {A : Type 0} (sep : Token) (IsPart : Derivation A) : List Token → List A
+    → List Token → Type 0 where
   none : {r : List Token} → IsRepeated sep IsPart r [] r
-  more : {ts mid r : List Token} {x : A} {xs : List A} → IsPart ts x mid → IsRepeated sep IsPart mid xs r → IsRepeated sep IsPart (sep ∷ ts) (x ∷ xs) r
+  more : {ts mid r : List Token} {x : A} {xs : List A} → IsPart ts x mid
+      → IsRepeated sep IsPart mid xs r → IsRepeated sep IsPart (sep ∷ ts) (x ∷ xs) r
 
 -- name
 pub data IsName : List Token → List ℕ → List Token → Type 0 where
   name : {n : List ℕ} {r : List Token} → IsName (tokens.Name n ∷ r) n r
 
+-- keyword "(" name ")", and then these tokens
+abbrev pub call : Word → List ℕ → List Token → List Token
+call keyword n r =
+    tokens.Word keyword ∷ tokens.Sign s.Open ∷ tokens.Name n ∷ tokens.Sign s.Close ∷ r
+
 -- setfn = COUNT "(" "*" ")" | COUNT "(" [ DISTINCT ] name ")"
---       | SUM "(" name ")" | MIN "(" name ")" | MAX "(" name ")" | AVG "(" name ")", apart from its FILTER
+--       | SUM "(" name ")" | MIN "(" name ")" | MAX "(" name ")" | AVG "(" name ")"
+-- apart from its FILTER
 pub data IsAggregate : List Token → Aggregate → List Token → Type 0 where
-  count_rows : {r : List Token} → IsAggregate (tokens.Word w.Count ∷ tokens.Sign s.Open ∷ tokens.Sign s.Star ∷ tokens.Sign s.Close ∷ r) aggregates.CountRows r
-  count : {n : List ℕ} {r : List Token} → IsAggregate (tokens.Word w.Count ∷ tokens.Sign s.Open ∷ tokens.Name n ∷ tokens.Sign s.Close ∷ r) (aggregates.Count n) r
-  count_distinct : {n : List ℕ} {r : List Token} → IsAggregate (tokens.Word w.Count ∷ tokens.Sign s.Open ∷ tokens.Word w.Distinct ∷ tokens.Name n ∷ tokens.Sign s.Close ∷ r) (aggregates.CountDistinct n) r
-  sum : {n : List ℕ} {r : List Token} → IsAggregate (tokens.Word w.Sum ∷ tokens.Sign s.Open ∷ tokens.Name n ∷ tokens.Sign s.Close ∷ r) (aggregates.Sum n) r
-  min : {n : List ℕ} {r : List Token} → IsAggregate (tokens.Word w.Min ∷ tokens.Sign s.Open ∷ tokens.Name n ∷ tokens.Sign s.Close ∷ r) (aggregates.Min n) r
-  max : {n : List ℕ} {r : List Token} → IsAggregate (tokens.Word w.Max ∷ tokens.Sign s.Open ∷ tokens.Name n ∷ tokens.Sign s.Close ∷ r) (aggregates.Max n) r
-  avg : {n : List ℕ} {r : List Token} → IsAggregate (tokens.Word w.Avg ∷ tokens.Sign s.Open ∷ tokens.Name n ∷ tokens.Sign s.Close ∷ r) (aggregates.Avg n) r
+  count_rows : {r : List Token}
+      → IsAggregate
+      (tokens.Word w.Count ∷ tokens.Sign s.Open ∷ tokens.Sign s.Star ∷ tokens.Sign s.Close ∷ r)
+      aggregates.CountRows r
+  count : {n : List ℕ} {r : List Token} → IsAggregate (call w.Count n r) (aggregates.Count n) r
+  count_distinct : {n : List ℕ} {r : List Token}
+      → IsAggregate (tokens.Word w.Count ∷ tokens.Sign s.Open ∷ tokens.Word w.Distinct
+      ∷ tokens.Name n ∷ tokens.Sign s.Close ∷ r) (aggregates.CountDistinct n) r
+  sum : {n : List ℕ} {r : List Token} → IsAggregate (call w.Sum n r) (aggregates.Sum n) r
+  min : {n : List ℕ} {r : List Token} → IsAggregate (call w.Min n r) (aggregates.Min n) r
+  max : {n : List ℕ} {r : List Token} → IsAggregate (call w.Max n r) (aggregates.Max n) r
+  avg : {n : List ℕ} {r : List Token} → IsAggregate (call w.Avg n r) (aggregates.Avg n) r
 
 -- literal = whole number | text | TRUE | FALSE
 pub data IsLiteral : List Token → Literal → List Token → Type 0 where

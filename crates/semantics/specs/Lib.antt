@@ -21,7 +21,7 @@ pub mod Types
 pub mod Faults
 pub mod Groups
 pub mod Aggregates
-pub mod Found
+pub mod ResultRows
 pub mod Rows
 pub mod Order
 pub mod Texts

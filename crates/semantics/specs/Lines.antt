@@ -1,4 +1,5 @@
--- The lines of an input.
+-- The lines of an input. Of two inputs, one after the other, of which the first is whole lines,
+-- they are those of the first and then those of the second (`front_law` of lines).
 use Rattle.std.specs.List.{slice_split}
 use Rattle.std.specs.Prelude.{ℕ, ◌==◌, List, [], ◌∷◌, length, if◌then◌else◌}
 

@@ -1,10 +1,11 @@
--- What names stand for under a schema (ISO/IEC 9075-2, <column reference>).
+-- What names stand for under a schema (ISO/IEC 9075-2, <column reference>), and a list without
+-- repeats: which elements stay in it, `kept_law` of query_resolve says.
 use Rattle.std.specs.List.{filter_map, flat_map}
 use Rattle.std.specs.Option.{option_map, option_and_then}
 use Rattle.std.specs.Prelude.{ℕ, Bool, not, Option, List, [], ◌∷◌, ◌++◌, filter, position, slice_get, Some, None}
 use Rattle.std.specs.Str.{bytes_eq}
 use Rattle.semantics.specs.Columns.{Field, names_of}
-use Rattle.semantics.specs.Syntax.{ElementForm, ElementForms, set, rollup, cube, sets, no_groups, group, FunctionForm, PredicateForm, over_all, over_filtered}
+use Rattle.semantics.specs.Syntax.{GroupingElement, GroupingElements, set, rollup, cube, sets, no_groups, group, SetFunction, Predicate, over_all, over_filtered}
 use Rattle.semantics.specs.declared.aggregate.Aggregate.{Aggregate}
 use Rattle.semantics.specs.declared.function.ColumnFunction.{ColumnFunction}
 use Rattle.semantics.specs.declared.kind.Kind.{Kind}
@@ -34,24 +35,24 @@ distinct same (x ∷ xs) = x ∷ filter (λ y. not (same x y)) (distinct same xs
 
 abbrev mutual
   -- The names in an element of GROUP BY, from left to right.
-  pub group_names : ElementForm → List (List ℕ)
+  pub group_names : GroupingElement → List (List ℕ)
   group_names (set names) = names
   group_names (rollup units) = flat_map (λ unit. unit) units
   group_names (cube units) = flat_map (λ unit. unit) units
   group_names (sets gs) = groups_names gs
 
   -- Those in the elements of GROUPING SETS.
-  pub groups_names : ElementForms → List (List ℕ)
+  pub groups_names : GroupingElements → List (List ℕ)
   groups_names no_groups = []
   groups_names (group g gs) = group_names g ++ groups_names gs
 
 -- The set function without its FILTER.
-abbrev pub aggregate_of : FunctionForm → Aggregate
+abbrev pub aggregate_of : SetFunction → Aggregate
 aggregate_of (over_all a) = a
 aggregate_of (over_filtered a p) = a
 
 -- The predicate of its FILTER, where it has one.
-abbrev pub filter_of : FunctionForm → Option PredicateForm
+abbrev pub filter_of : SetFunction → Option Predicate
 filter_of (over_all a) = None
 filter_of (over_filtered a p) = Some p
 
@@ -71,8 +72,10 @@ column_function fields (aggregate.Avg x) = option_map at.Avg (place_of fields x)
 -- A set function with the place of its column, and the predicate of its FILTER, where it has one.
 pub record PlannedFunction : Type 0 where
   pub function : ColumnFunction
-  pub filter : Option PredicateForm
+  pub filter : Option Predicate
 
 -- A set function, where the schema has its column.
-abbrev pub planned_function : List Field → FunctionForm → Option PlannedFunction
-planned_function fields f = option_map (λ g. record { function = g; filter = filter_of f }) (column_function fields (aggregate_of f))
+abbrev pub planned_function : List Field → SetFunction → Option PlannedFunction
+planned_function fields f =
+    option_map (λ g. record { function = g; filter = filter_of f })
+    (column_function fields (aggregate_of f))

@@ -1,4 +1,6 @@
--- The text of a part: the partial result of a query over an input, one value a line.
+-- The text of a part: the partial result of a query over an input, one value a line (RFC 8259). A
+-- line is read as the value whose text it is, and as no other (`text_law` of part_lines). A join of
+-- joins is the join of all parts (`parts_law` of parts).
 use Rattle.std.specs.Fmt.{signed_decimal}
 use Rattle.std.specs.List.{flat_map}
 use Rattle.std.specs.Prelude.{◌==◌, ℕ, pos, true, false, List, [], ◌∷◌, ◌++◌, codes, length, map, if◌then◌else◌}
@@ -8,12 +10,12 @@ use Rattle.sha2.specs.Sha256.{sha256}
 use Rattle.semantics.specs.Canonical.{canonical_text, separated_texts}
 use Rattle.semantics.specs.Columns.{Field}
 use Rattle.semantics.specs.Conditions.{kept_records}
-use Rattle.semantics.specs.Found.{aggregate_functions}
+use Rattle.semantics.specs.ResultRows.{aggregate_functions}
 use Rattle.semantics.specs.GroupStates.{EntryForm, FunctionState, rows, counted, summed, extreme, collected, entries_over}
 use Rattle.semantics.specs.Lines.{line_feed, lines}
 use Rattle.semantics.specs.Records.{refused_lines, valid_records}
 use Rattle.semantics.specs.Sets.{grouping_places}
-use Rattle.semantics.specs.Syntax.{TreeForm}
+use Rattle.semantics.specs.Syntax.{Query}
 use Rattle.semantics.specs.Texts.{fault_text}
 use Rattle.semantics.specs.Values.{Datum, boolean, whole, text, null}
 use Rattle.semantics.specs.declared.kind.Kind.{Kind}
@@ -22,9 +24,9 @@ use Rattle.semantics.specs.declared.line_fault.LineFault.{LineFault}
 
 -- ---- values as JSON texts (RFC 8259), each on a line of its own
 
--- Truth values and NULL are the literal names of JSON (section 3). A whole number is its digits, with a
--- minus in front of a number below 0 (section 6). A text is a string with the shortest escapes
--- (section 7).
+-- Truth values and NULL are the literal names of JSON (section 3). A whole number is its digits,
+-- with a minus in front of a number below 0 (section 6). A text is a string with the shortest
+-- escapes (section 7).
 abbrev pub value_text : Datum → List ℕ
 value_text (boolean true) = codes "true"
 value_text (boolean false) = codes "false"
@@ -88,20 +90,22 @@ header_of columns query = text mark ∷ text columns ∷ text query ∷ []
 
 -- ---- the partial result
 
--- What a part says of an input: the number of all lines, the refused lines by their numbers, and the
--- groups of the records, by ascending keys.
+-- What a part says of an input: the number of all lines, the refused lines by their numbers, and
+-- the groups of the records, by ascending keys.
 pub record ContentsForm : Type 0 where
   pub lines : ℕ
   pub refused : List (ℕ × LineFault)
   pub groups : List EntryForm
 
--- Those of an input under columns and a query: the groups are those of all grouping columns over the
--- valid records that WHERE keeps.
-abbrev pub contents_over : List Field → TreeForm → List ℕ → ContentsForm
+-- Those of an input under columns and a query: the groups are those of all grouping columns over
+-- the valid records that WHERE keeps.
+abbrev pub contents_over : List Field → Query → List ℕ → ContentsForm
 contents_over fields q input = record {
   lines = length (lines input);
   refused = refused_lines fields input;
-  groups = entries_over (grouping_places fields q) (aggregate_functions fields q) (kept_records fields q (valid_records fields input));
+  groups =
+      entries_over (grouping_places fields q) (aggregate_functions fields q)
+      (kept_records fields q (valid_records fields input));
 }
 
 -- A count, as a value.
@@ -116,9 +120,10 @@ refused_line_values fields line = number line.0 ∷ text (fault_text fields line
 abbrev pub refused_values : List Field → List (ℕ × LineFault) → List Datum
 refused_values fields refused = flat_map (refused_line_values fields) refused
 
--- What stands before the groups of a part: behind its first lines the number of all lines, the number of
--- the refused ones and these, and the number of the groups.
-abbrev pub front_of : (columns query : List ℕ) → List Field → (lines : ℕ) → List (ℕ × LineFault) → (groups : ℕ) → List Datum
+-- What stands before the groups of a part: behind its first lines the number of all lines, the
+-- number of the refused ones and these, and the number of the groups.
+abbrev pub front_of : (columns query : List ℕ) → List Field → (lines : ℕ) → List (ℕ × LineFault)
+    → (groups : ℕ) → List Datum
 front_of columns query fields lines refused groups =
     header_of columns query
     ++ number lines
@@ -128,15 +133,19 @@ front_of columns query fields lines refused groups =
     ∷ []
 
 -- The same for columns and a query, by their texts.
-abbrev pub front_values : List Field → TreeForm → (lines : ℕ) → List (ℕ × LineFault) → (groups : ℕ) → List Datum
-front_values fields q lines refused groups = front_of (columns_text fields) (canonical_text q) fields lines refused groups
+abbrev pub front_values : List Field → Query → (lines : ℕ) → List (ℕ × LineFault) → (groups : ℕ)
+    → List Datum
+front_values fields q lines refused groups =
+    front_of (columns_text fields) (canonical_text q) fields lines refused groups
 
 -- The values of a part with these contents, all but the checksum at its end.
-abbrev pub values_with : List Field → TreeForm → ContentsForm → List Datum
-values_with fields q contents = front_values fields q contents.lines contents.refused (length contents.groups) ++ groups_values contents.groups
+abbrev pub values_with : List Field → Query → ContentsForm → List Datum
+values_with fields q contents =
+    front_values fields q contents.lines contents.refused (length contents.groups)
+    ++ groups_values contents.groups
 
 -- The same for the part of an input.
-abbrev pub part_values : List Field → TreeForm → List ℕ → List Datum
+abbrev pub part_values : List Field → Query → List ℕ → List Datum
 part_values fields q input = values_with fields q (contents_over fields q input)
 
 -- ---- the whole part
@@ -150,17 +159,17 @@ abbrev pub with_checksum : List ℕ → List ℕ
 with_checksum bytes = bytes ++ line_of (checksum bytes)
 
 -- The part of an input, under columns and a query.
-abbrev pub part_text : List Field → TreeForm → List ℕ → List ℕ
+abbrev pub part_text : List Field → Query → List ℕ → List ℕ
 part_text fields q input = with_checksum (text_of (part_values fields q input))
 
 -- ---- inputs, one behind the other
 
 -- An input with a line feed behind it where it is not empty and lacks one.
-abbrev pub closed : List ℕ → List ℕ
-closed [] = []
-closed (byte ∷ []) = if byte == line_feed then byte ∷ [] else byte ∷ line_feed ∷ []
-closed (byte ∷ next ∷ bytes) = byte ∷ closed (next ∷ bytes)
+abbrev pub newline_terminated : List ℕ → List ℕ
+newline_terminated [] = []
+newline_terminated (byte ∷ []) = if byte == line_feed then byte ∷ [] else byte ∷ line_feed ∷ []
+newline_terminated (byte ∷ next ∷ bytes) = byte ∷ newline_terminated (next ∷ bytes)
 
 -- Some inputs, one behind the other, so that each begins on a line of its own.
 abbrev pub concatenated : List (List ℕ) → List ℕ
-concatenated inputs = flat_map closed inputs
+concatenated inputs = flat_map newline_terminated inputs

@@ -1,8 +1,8 @@
 -- Which tokens begin a query, and where tokens that are none go wrong.
 use Rattle.std.specs.Prelude.{◌≤◌, ◌<◌, ◌+◌, ℕ, List, [], ◌∷◌, ◌++◌, length, take}
 use Rattle.semantics.specs.Grammar.{DerivesWithin}
-use Rattle.semantics.specs.Leaves.{Limits, standard}
-use Rattle.semantics.specs.Syntax.{TreeForm}
+use Rattle.semantics.specs.Leaves.{Limits, language_limits}
+use Rattle.semantics.specs.Syntax.{Query}
 use Rattle.semantics.specs.declared.token.Token.{Token}
 use Rattle.semantics.specs.declared.token.Token.TheVariants as tokens
 use Rattle.semantics.specs.declared.token.Word.TheVariants as w
@@ -11,7 +11,7 @@ use Rattle.semantics.specs.declared.token.Sign.TheVariants as s
 -- These tokens begin a query within these limits: with some tokens behind them they derive one.
 pub record BeginsWithin (limits : Limits) (front : List Token) : Type 0 where
   pub rest : List Token
-  pub tree : TreeForm
+  pub tree : Query
   pub derived : DerivesWithin limits (front ++ rest) tree
 
 -- These tokens begin a query: they do within some limits.
@@ -23,9 +23,11 @@ pub record Begins (front : List Token) : Type 0 where
 -- word FILTER at their end does not count: what follows it may be too much, and it is not too
 -- much itself.
 pub data KeepsLimits : List Token → Type 0 where
-  begins : {front : List Token} → BeginsWithin standard front → KeepsLimits front
-  comma : {front : List Token} → BeginsWithin standard front → KeepsLimits (front ++ tokens.Sign s.Comma ∷ [])
-  filter : {front : List Token} → BeginsWithin standard front → KeepsLimits (front ++ tokens.Word w.Filter ∷ [])
+  begins : {front : List Token} → BeginsWithin language_limits front → KeepsLimits front
+  comma : {front : List Token} → BeginsWithin language_limits front
+      → KeepsLimits (front ++ tokens.Sign s.Comma ∷ [])
+  filter : {front : List Token} → BeginsWithin language_limits front
+      → KeepsLimits (front ++ tokens.Word w.Filter ∷ [])
 
 -- The token at this position, from 0, is unexpected; at the position after the last token, it is
 -- the end that is. The tokens before it begin a query and keep the limits. With it they begin no
@@ -35,7 +37,7 @@ pub record IsUnexpected (ts : List Token) (place : ℕ) : Type 0 where
   pub begins : Begins (take place ts)
   pub keeps : KeepsLimits (take place ts)
   pub continues_none : place < length ts → Begins (take (place + 1) ts) → ⊥
-  pub derives_none : (limits : Limits) (q : TreeForm) → DerivesWithin limits ts q → ⊥
+  pub derives_none : (limits : Limits) (q : Query) → DerivesWithin limits ts q → ⊥
 
 -- There is too much: some of the first tokens begin a query and do not keep the limits.
 pub record IsOverLimit (ts : List Token) : Type 0 where

@@ -1,9 +1,11 @@
--- Which query a text derives, and what a fault says of a text.
+-- Which query a text derives, and what a fault says of a text (ISO/IEC 9075-2, <query
+-- specification>). No text derives two queries (`derives_one` of query), and each text derives one
+-- or has exactly one fault of syntax (`derives_or_refused`).
 use Rattle.std.specs.Prelude.{◌≤◌, ℕ, List, length, ◌≡◌, ◌<◌, ◌⊎◌, Some, Result, MatchResult, [], ◌∷◌, ◌++◌, slice_get}
 use Rattle.semantics.specs.Grammar.{DerivesWithin}
-use Rattle.semantics.specs.Leaves.{standard}
+use Rattle.semantics.specs.Leaves.{language_limits}
 use Rattle.semantics.specs.Prefixes.{IsUnexpected, IsOverLimit}
-use Rattle.semantics.specs.Syntax.{TreeForm}
+use Rattle.semantics.specs.Syntax.{Query}
 use Rattle.semantics.specs.Tokens.{Spells, StopsAt}
 use Rattle.semantics.specs.declared.query_fault.QueryFault.{QueryFault}
 use Rattle.semantics.specs.declared.token.Token.{Token}
@@ -12,12 +14,12 @@ use Rattle.semantics.specs.Limits.{max_query_len}
 
 -- A text derives a query if it has at most 65,536 bytes, and spells tokens that derive the query
 -- within the limits.
-pub record Derives (text : List ℕ) (q : TreeForm) : Type 0 where
+pub record Derives (text : List ℕ) (q : Query) : Type 0 where
   pub short : length text ≤ max_query_len
   pub tokens : List Token
   pub starts : List ℕ
   pub spelled : Spells text tokens starts
-  pub derived : DerivesWithin standard tokens q
+  pub derived : DerivesWithin language_limits tokens q
 
 -- A text spells tokens of which some, in front, begin a query that does not keep the limits.
 pub record SpellsTooMuch (text : List ℕ) : Type 0 where
@@ -53,4 +55,5 @@ IsRefusalOf text faults.OutOfMemory = ⊥
 
 -- A call refuses with this fault, unless memory ran out.
 abbrev pub Refuses : {A : Type 0} → Result A QueryFault → QueryFault → Type 0
-Refuses result fault = MatchResult result (λ x. ⊥) (λ other. (other ≡ fault) ⊎ (other ≡ faults.OutOfMemory))
+Refuses result fault =
+    MatchResult result (λ x. ⊥) (λ other. (other ≡ fault) ⊎ (other ≡ faults.OutOfMemory))

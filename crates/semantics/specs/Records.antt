@@ -1,5 +1,6 @@
 -- The record that a line is (RFC 8259), or its first fault; the valid records and the refused lines
--- of an input.
+-- of an input. Of two inputs, one after the other, of which the first is whole lines, they are
+-- those of the first and then those of the second, numbered on (`front_law` of lines).
 use Rattle.std.specs.Int.{w64}
 use Rattle.std.specs.List.{enumerate_from, AllZip}
 use Rattle.std.specs.Option.{is_none, option_map_or}
@@ -41,7 +42,8 @@ is_int64 (negsuc n) = nat_lt n (2 ^ 63)
 -- value is of another kind.
 abbrev pub datum_taken : Kind → Data → Option Datum
 datum_taken k json.null = Some null
-datum_taken kind.Int (json.number n) = option_and_then (λ z. if is_int64 z then Some (whole z) else None) (as_integer n)
+datum_taken kind.Int (json.number n) =
+    option_and_then (λ z. if is_int64 z then Some (whole z) else None) (as_integer n)
 datum_taken kind.Text (json.string s) = Some (text s)
 datum_taken kind.Bool (json.boolean b) = Some (boolean b)
 datum_taken k d = None
@@ -52,14 +54,17 @@ member_of members name = unwrap_or (get_member name members) json.null
 
 -- The value that each column takes from the members of an object.
 abbrev pub data_taken : List Field → Members → List (Option Datum)
-data_taken fields members = map (λ field. datum_taken field.kind (member_of members field.name)) fields
+data_taken fields members =
+    map (λ field. datum_taken field.kind (member_of members field.name)) fields
 
 -- ---- the record or the fault
 
 -- The values, if every column takes one; otherwise the position of the first column that takes
 -- none.
 abbrev pub all_taken : List (Option Datum) → Result (List Datum) LineFault
-all_taken found = option_map_or (λ place. Err (BadValue place)) (position is_none found) (Ok (filter_map (λ o. o) found))
+all_taken found =
+    option_map_or (λ place. Err (BadValue place))
+    (position is_none found) (Ok (filter_map (λ o. o) found))
 
 -- The record of a line that is this JSON value, or the fault of the line.
 abbrev pub record_of : List Field → Option Data → Result (List Datum) LineFault
@@ -70,20 +75,23 @@ record_of fields (Some other) = Err NoObject
 -- The record of a line under a schema, or the first fault of the line: it is too long, it is not
 -- JSON, it is not an object, or a column does not take its member.
 abbrev pub decode_line : List Field → List ℕ → Result (List Datum) LineFault
-decode_line fields line = if nat_lt max_line_len (length line) then Err TooLong else record_of fields (reading line)
+decode_line fields line =
+    if nat_lt max_line_len (length line) then Err TooLong else record_of fields (reading line)
 
 -- The record or the fault of each line of the input, in order.
-abbrev pub answers : List Field → List ℕ → List (Result (List Datum) LineFault)
-answers fields input = map (decode_line fields) (lines input)
+abbrev pub line_results : List Field → List ℕ → List (Result (List Datum) LineFault)
+line_results fields input = map (decode_line fields) (lines input)
 
 -- The records of the lines that have no fault, in order.
 abbrev pub valid_records : List Field → List ℕ → List (List Datum)
-valid_records fields input = filter_map result_ok (answers fields input)
+valid_records fields input = filter_map result_ok (line_results fields input)
 
 -- The number of each line that has a fault, beside the fault, in order; the first line of the input
 -- has the number 1.
 abbrev pub refused_lines : List Field → List ℕ → List (ℕ × LineFault)
-refused_lines fields input = filter_map (λ p. option_map (λ fault. (p.0, fault)) (result_err p.1)) (enumerate_from 1 (answers fields input))
+refused_lines fields input =
+    filter_map (λ p. option_map (λ fault. (p.0, fault)) (result_err p.1))
+    (enumerate_from 1 (line_results fields input))
 
 -- What a refusal says of a line: a Fault is the fault of the line; Memory says nothing of it.
 abbrev pub IsRefusal : LineRefusal → Result (List Datum) LineFault → Type 0

@@ -13,7 +13,7 @@ use Rattle.semantics.specs.Faults.{query_faults}
 use Rattle.semantics.specs.Joins.{IsJoin, IsPartialJoin, IsPartialRun}
 use Rattle.semantics.specs.Reading.{Derives, IsRefusalOf}
 use Rattle.semantics.specs.Run.{AppendsBeginning, IsRun}
-use Rattle.semantics.specs.Syntax.{TreeForm}
+use Rattle.semantics.specs.Syntax.{Query}
 use Rattle.semantics.specs.declared.ending.Ending.{Ending}
 use Rattle.semantics.specs.declared.ending.Ending.TheVariants as ending
 use Rattle.semantics.specs.declared.join_fault.JoinFault.{JoinFault}
@@ -76,47 +76,55 @@ last_status (Err ending) = status_of ending
 
 -- ---- texts
 
--- How the program ends that is asked for a text: it is written, with status 0; or memory ran out, and
--- nothing is written; or a write failed, and a beginning of it is written.
+-- How the program ends that is asked for a text: it is written, with status 0; or memory ran out,
+-- and nothing is written; or a write failed, and a beginning of it is written.
 abbrev pub EndsByText : List ℕ → Result ℕ Ending → (out_old out_new : Option (List ℕ)) → Type 0
 EndsByText text (Ok status) out_old out_new = (status ≡ 0) × Appends out_old out_new text
 EndsByText text (Err (ending.Run run_faults.OutOfMemory)) out_old out_new = Keeps out_old out_new
-EndsByText text (Err (ending.Run run_faults.WritingReport)) out_old out_new = AppendsBeginning out_old out_new text
+EndsByText text (Err (ending.Run run_faults.WritingReport)) out_old out_new =
+    AppendsBeginning out_old out_new text
 EndsByText text (Err other) out_old out_new = ⊥
 
 -- Whether the words ask for a text of clap, which is help or the version.
 abbrev pub AsksForText : ErrorKind → Type 0
 AsksForText kind = (kind ≡ kinds.DisplayHelp) ⊎ (kind ≡ kinds.DisplayVersion)
 
--- How the program ends where clap answers this in place of settings: by its text, where the words ask
--- for one; by want of memory, where that is the answer; and else since the words are refused.
-pub record EndsByClap (error : Error) (end : Result ℕ Ending) (out_old out_new : Option (List ℕ)) : Type 0 where
+-- How the program ends where clap answers this in place of settings: by its text, where the words
+-- ask for one; by want of memory, where that is the answer; and else since the words are refused.
+pub record EndsByClap (error : Error) (end : Result ℕ Ending) (out_old out_new : Option (List ℕ))
+    : Type 0 where
   pub text : AsksForText (kind_of error) → (text : List ℕ) × EndsByText text end out_old out_new
-  pub memory : kind_of error ≡ kinds.OutOfMemory → (end ≡ Err (ending.Run run_faults.OutOfMemory)) × Keeps out_old out_new
+  pub memory : kind_of error ≡ kinds.OutOfMemory
+      → (end ≡ Err (ending.Run run_faults.OutOfMemory)) × Keeps out_old out_new
   pub refused : ¬ AsksForText (kind_of error) → kind_of error ≢ kinds.OutOfMemory
       → (end ≡ Err (ending.Words (words_faults.Clap error))) × Keeps out_old out_new
 
 -- How the program ends that has no settings.
 abbrev pub EndsByWords : WordsFault → Result ℕ Ending → (out_old out_new : Option (List ℕ)) → Type 0
 EndsByWords (words_faults.Clap error) end out_old out_new = EndsByClap error end out_old out_new
-EndsByWords words_faults.Range end out_old out_new = (end ≡ Err (ending.Words words_faults.Range)) × Keeps out_old out_new
-EndsByWords words_faults.NotUtf8 end out_old out_new = (end ≡ Err (ending.Words words_faults.NotUtf8)) × Keeps out_old out_new
+EndsByWords words_faults.Range end out_old out_new =
+    (end ≡ Err (ending.Words words_faults.Range)) × Keeps out_old out_new
+EndsByWords words_faults.NotUtf8 end out_old out_new =
+    (end ≡ Err (ending.Words words_faults.NotUtf8)) × Keeps out_old out_new
 
 -- ---- columns and query
 
--- The columns are good, and this is the fault of the query: that of its text, or the first of what is
--- wrong under the columns with the query that it derives.
+-- The columns are good, and this is the fault of the query: that of its text, or the first of what
+-- is wrong under the columns with the query that it derives.
 pub record HasQueryFault (columns query : List ℕ) (fault : QueryFault) : Type 0 where
   pub fields : List Field
   pub schema : schema_of columns ≡ Ok fields
   pub told : IsRefusalOf query fault
-      ⊎ ((form : TreeForm) × Derives query form × (slice_get (query_faults fields form) 0 ≡ Some fault))
+      ⊎ ((form : Query) × Derives query form
+      × (slice_get (query_faults fields form) 0 ≡ Some fault))
 
--- The program ends since the columns are refused, or else the query, by the fault that they have; or
--- memory ran out while they were read.
+-- The program ends since the columns are refused, or else the query, by the fault that they have;
+-- or memory ran out while they were read.
 abbrev pub IsRefused : (columns query : List ℕ) → Result ℕ Ending → Type 0
-IsRefused columns query (Err (ending.Schema fault)) = (fault ≡ schema_faults.OutOfMemory) ⊎ (schema_of columns ≡ Err fault)
-IsRefused columns query (Err (ending.Query fault)) = (fault ≡ text_faults.OutOfMemory) ⊎ HasQueryFault columns query fault
+IsRefused columns query (Err (ending.Schema fault)) =
+    (fault ≡ schema_faults.OutOfMemory) ⊎ (schema_of columns ≡ Err fault)
+IsRefused columns query (Err (ending.Query fault)) =
+    (fault ≡ text_faults.OutOfMemory) ⊎ HasQueryFault columns query fault
 IsRefused columns query end = ⊥
 
 -- ---- a report or a part
@@ -126,10 +134,10 @@ abbrev pub end_of : {F : Type 0} → (F → Ending) → (partial : Bool) → Res
 end_of to_ending partial (Ok done) = Ok (done_status partial done)
 end_of to_ending partial (Err fault) = Err (to_ending fault)
 
--- How the program ends that is asked for a report, or for a part in its place, of the lines that are
--- given, or with --join of the lines whose parts are given: as the run, or as the join. Beside a part
--- nothing goes to the second output.
-abbrev pub EndsByRun : (join partial : Bool) → Result ℕ Ending → Option ℕ → List Field → TreeForm
+-- How the program ends that is asked for a report, or for a part in its place, of the lines that
+-- are given, or with --join of the lines whose parts are given: as the run, or as the join. Beside
+-- a part nothing goes to the second output.
+abbrev pub EndsByRun : (join partial : Bool) → Result ℕ Ending → Option ℕ → List Field → Query
     → (given out_old out_new err_old err_new : Option (List ℕ)) → Type 0
 EndsByRun false false end limit fields q given out_old out_new err_old err_new =
     (result : Result Done RunFault) × (end ≡ end_of ending.Run false result)
@@ -146,39 +154,47 @@ EndsByRun true true end limit fields q given out_old out_new err_old err_new =
 
 -- ---- the program
 
--- How the program ends whose columns and query are good. Where an explanation is asked for, by that
--- text, and no file is opened. Else the file is opened, once: it cannot be, and nothing is written; or
--- what is asked for is done over what its reader gives.
-abbrev pub EndsByQuery : {F R : Type 0} → (opens : Mut F (Bor (List ℕ) × Unit {0}) (Option R)) → (before after : F)
-    → (remaining : R → Option (List ℕ)) → (file : List ℕ) → (explain join partial : Bool) → Option ℕ → List Field → TreeForm
+-- How the program ends whose columns and query are good. Where an explanation is asked for, by
+-- that text, and no file is opened. Else the file is opened, once: it cannot be, and nothing is
+-- written; or what is asked for is done over what its reader gives.
+abbrev pub EndsByQuery : {F R : Type 0} → (opens : Mut F (Bor (List ℕ) × Unit {0}) (Option R))
+    → (before after : F)
+    → (remaining : R → Option (List ℕ)) → (file : List ℕ) → (explain join partial : Bool) → Option ℕ
+    → List Field → Query
     → Result ℕ Ending → (out_old out_new err_old err_new : Option (List ℕ)) → Type 0
-EndsByQuery opens before after remaining file true join partial limit fields q end out_old out_new err_old err_new =
+EndsByQuery opens before after remaining file true join partial limit fields q end out_old out_new
+    err_old err_new =
     EndsByText (explanation fields q) end out_old out_new × Keeps err_old err_new × (after ≡ before)
-EndsByQuery {F} {R} opens before after remaining file false join partial limit fields q end out_old out_new err_old err_new =
+EndsByQuery {F} {R} opens before after remaining file false join partial limit fields q end out_old
+    out_new err_old err_new =
     (CalledAt opens before file None after × (end ≡ Err ending.NotOpened)
     × Keeps out_old out_new × Keeps err_old err_new)
     ⊎ ((reader : R) × CalledAt opens before file (Some reader) after
     × EndsByRun join partial end limit fields q (remaining reader) out_old out_new err_old err_new)
 
--- How the program ends that has settings: the columns or the query are refused, and no file is opened
--- and nothing written; or they are good.
-abbrev pub EndsBySettings : {F R : Type 0} → (opens : Mut F (Bor (List ℕ) × Unit {0}) (Option R)) → (before after : F)
-    → (remaining : R → Option (List ℕ)) → (columns query file : List ℕ) → (explain join partial : Bool) → Option ℕ
+-- How the program ends that has settings: the columns or the query are refused, and no file is
+-- opened and nothing written; or they are good.
+abbrev pub EndsBySettings : {F R : Type 0} → (opens : Mut F (Bor (List ℕ) × Unit {0}) (Option R))
+    → (before after : F)
+    → (remaining : R → Option (List ℕ)) → (columns query file : List ℕ)
+    → (explain join partial : Bool) → Option ℕ
     → Result ℕ Ending → (out_old out_new err_old err_new : Option (List ℕ)) → Type 0
-EndsBySettings opens before after remaining columns query file explain join partial limit end out_old out_new err_old err_new =
+EndsBySettings opens before after remaining columns query file explain join partial limit end
+    out_old out_new err_old err_new =
     (IsRefused columns query end × (after ≡ before) × Keeps out_old out_new × Keeps err_old err_new)
     ⊎ ((good : IsAnswerable columns query)
     × EndsByQuery opens before after remaining file explain join partial limit good.fields good.form
     end out_old out_new err_old err_new)
 
--- What the second output gets at the end: nothing more where it is done, and else a text, behind what
--- was written there before.
+-- What the second output gets at the end: nothing more where it is done, and else a text, behind
+-- what was written there before.
 abbrev pub IsTold : Result ℕ Ending → (old new : Option (List ℕ)) → Type 0
 IsTold (Ok status) old new = Keeps old new
 IsTold (Err ending) old new = (text : List ℕ) × Appends old new text
 
 -- The program ends so, tells it, and answers its status.
-pub record IsServed (ends : Result ℕ Ending → Option (List ℕ) → Type 0) (status : ℕ) (err_new : Option (List ℕ)) : Type 0 where
+pub record IsServed (ends : Result ℕ Ending → Option (List ℕ) → Type 0) (status : ℕ)
+    (err_new : Option (List ℕ)) : Type 0 where
   pub end : Result ℕ Ending
   pub err_then : Option (List ℕ)
   pub reached : ends end err_then

@@ -3,10 +3,10 @@ use Rattle.std.specs.Fmt.{signed_decimal}
 use Rattle.std.specs.List.{flat_map}
 use Rattle.std.specs.Prelude.{ℕ, ◌==◌, true, false, List, [], ◌∷◌, ◌++◌, map, codes, decimal, if◌then◌else◌}
 use Rattle.csv.specs.Writing.{row_text, default_writer}
-use Rattle.semantics.specs.Aggregates.{Summary, plain, ratio}
+use Rattle.semantics.specs.Aggregates.{CellValue, plain, ratio}
 use Rattle.semantics.specs.Canonical.{header_text, name_at}
 use Rattle.semantics.specs.Columns.{Field}
-use Rattle.semantics.specs.Syntax.{ItemForm}
+use Rattle.semantics.specs.Syntax.{SelectItem}
 use Rattle.semantics.specs.Values.{Datum, boolean, whole, text, null}
 use Rattle.semantics.specs.declared.line_fault.LineFault.{LineFault}
 use Rattle.semantics.specs.declared.line_fault.LineFault.TheVariants.{TooLong, NoJson, NoObject, BadValue}
@@ -27,14 +27,15 @@ value_field (text s) = escaped_text s
 value_field null = codes "\\N"
 
 -- A cell as a field; an average is its sum and its count.
-abbrev pub cell_field : Summary → List ℕ
+abbrev pub cell_field : CellValue → List ℕ
 cell_field (plain d) = value_field d
 cell_field (ratio sum count) = signed_decimal sum ++ codes "/" ++ decimal count
 
 -- The bytes of a report: the header of each item, and then each row, as CSV with commas, line
 -- feeds, and quotes where they are needed.
-abbrev pub report_bytes : List ItemForm → List (List Summary) → List ℕ
-report_bytes items rows = flat_map (row_text default_writer) (map header_text items ∷ map (map cell_field) rows)
+abbrev pub report_bytes : List SelectItem → List (List CellValue) → List ℕ
+report_bytes items rows =
+    flat_map (row_text default_writer) (map header_text items ∷ map (map cell_field) rows)
 
 -- ---- the refused lines
 
@@ -47,4 +48,5 @@ fault_text fields (BadValue place) = codes "bad value in column " ++ name_at fie
 
 -- A refused line: its number, and what is wrong with it.
 abbrev pub refused_line : List Field → ℕ × LineFault → List ℕ
-refused_line fields refused = codes "line " ++ decimal refused.0 ++ codes ": " ++ fault_text fields refused.1 ++ codes "\n"
+refused_line fields refused =
+    codes "line " ++ decimal refused.0 ++ codes ": " ++ fault_text fields refused.1 ++ codes "\n"

@@ -5,7 +5,7 @@ use Rattle.std.specs.Prelude.{Bool, true, false, Option, Some, None, List}
 use Rattle.std.specs.Str.{bytes_eq}
 use Rattle.semantics.specs.Columns.{Field}
 use Rattle.semantics.specs.Names.{aggregate_of, column_kind}
-use Rattle.semantics.specs.Syntax.{ExpressionForm, OperandForm, ItemForm, name, grouping, function, expression, literal}
+use Rattle.semantics.specs.Syntax.{Expression, Operand, SelectItem, name, grouping, function, expression, literal}
 use Rattle.semantics.specs.declared.aggregate.Aggregate.{Aggregate}
 use Rattle.semantics.specs.declared.kind.Kind.{Kind}
 use Rattle.semantics.specs.declared.literal.Literal.{Literal}
@@ -39,7 +39,7 @@ aggregate_kind fields (aggregate.Max x) = column_kind fields x
 aggregate_kind fields (aggregate.Avg x) = None
 
 -- The type of an expression: a column has its own, GROUPING is a whole number.
-abbrev pub expression_kind : List Field → ExpressionForm → Option Kind
+abbrev pub expression_kind : List Field → Expression → Option Kind
 expression_kind fields (name n) = column_kind fields n
 expression_kind fields (grouping ns) = Some kind.Int
 expression_kind fields (function f) = aggregate_kind fields (aggregate_of f)
@@ -53,7 +53,7 @@ literal_kind (constant.Truth b) = kind.Bool
 -- ---- operands
 
 -- The type of an operand.
-abbrev pub operand_kind : List Field → OperandForm → Option Kind
+abbrev pub operand_kind : List Field → Operand → Option Kind
 operand_kind fields (expression e) = expression_kind fields e
 operand_kind fields (literal a) = Some (literal_kind a)
 
@@ -61,7 +61,9 @@ operand_kind fields (literal a) = Some (literal_kind a)
 
 -- A key of ORDER BY that is the alias of an item stands for that item, the first one with this
 -- alias.
-abbrev pub key_expression : List ItemForm → ExpressionForm → ExpressionForm
-key_expression items (name n) = option_map_or (λ i. i.expression) (find (λ i. option_map_or (bytes_eq n) i.alias false) items) (name n)
+abbrev pub key_expression : List SelectItem → Expression → Expression
+key_expression items (name n) =
+    option_map_or (λ i. i.expression)
+    (find (λ i. option_map_or (bytes_eq n) i.alias false) items) (name n)
 key_expression items (grouping ns) = grouping ns
 key_expression items (function f) = function f

@@ -24,21 +24,26 @@ is_word (b ∷ bs) = begins_word b && list_all continues_word bs
 -- The reserved words, each with its letters.
 abbrev pub reserved_words : List (Word × String)
 reserved_words =
-    (w.And, "AND") ∷ (w.As, "AS") ∷ (w.Asc, "ASC") ∷ (w.Avg, "AVG") ∷ (w.Between, "BETWEEN") ∷ (w.By, "BY") ∷
-    (w.Count, "COUNT") ∷ (w.Cube, "CUBE") ∷ (w.Desc, "DESC") ∷ (w.Distinct, "DISTINCT") ∷ (w.False, "FALSE") ∷
-    (w.Filter, "FILTER") ∷ (w.First, "FIRST") ∷ (w.From, "FROM") ∷ (w.Group, "GROUP") ∷
-    (w.Grouping, "GROUPING") ∷ (w.Having, "HAVING") ∷ (w.In, "IN") ∷ (w.Is, "IS") ∷ (w.Last, "LAST") ∷
-    (w.Max, "MAX") ∷ (w.Min, "MIN") ∷ (w.Not, "NOT") ∷ (w.Null, "NULL") ∷ (w.Nulls, "NULLS") ∷ (w.Or, "OR") ∷
-    (w.Order, "ORDER") ∷ (w.Rollup, "ROLLUP") ∷ (w.Select, "SELECT") ∷ (w.Sets, "SETS") ∷ (w.Sum, "SUM") ∷
+    (w.And, "AND") ∷ (w.As, "AS") ∷ (w.Asc, "ASC") ∷ (w.Avg, "AVG") ∷ (w.Between, "BETWEEN") ∷
+    (w.By, "BY") ∷ (w.Count, "COUNT") ∷ (w.Cube, "CUBE") ∷ (w.Desc, "DESC") ∷
+    (w.Distinct, "DISTINCT") ∷ (w.False, "FALSE") ∷ (w.Filter, "FILTER") ∷ (w.First, "FIRST") ∷
+    (w.From, "FROM") ∷ (w.Group, "GROUP") ∷
+    (w.Grouping, "GROUPING") ∷ (w.Having, "HAVING") ∷ (w.In, "IN") ∷ (w.Is, "IS") ∷
+    (w.Last, "LAST") ∷ (w.Max, "MAX") ∷ (w.Min, "MIN") ∷ (w.Not, "NOT") ∷ (w.Null, "NULL") ∷
+    (w.Nulls, "NULLS") ∷ (w.Or, "OR") ∷ (w.Order, "ORDER") ∷ (w.Rollup, "ROLLUP") ∷
+    (w.Select, "SELECT") ∷ (w.Sets, "SETS") ∷ (w.Sum, "SUM") ∷
     (w.True, "TRUE") ∷ (w.Unknown, "UNKNOWN") ∷ (w.Where, "WHERE") ∷ []
 
 -- The reserved word whose letters a text has without regard to ASCII case, if there is one.
 unfoldable pub reserved_word : List ℕ → Option Word
-reserved_word text = option_map (λ entry. entry.0) (find (λ entry. str_eq_ignore_ascii_case text (codes entry.1)) reserved_words)
+reserved_word text =
+    option_map (λ entry. entry.0)
+    (find (λ entry. str_eq_ignore_ascii_case text (codes entry.1)) reserved_words)
 
 -- Each quote in a text is written twice.
 abbrev pub with_quotes_doubled : ℕ → List ℕ → List ℕ
-with_quotes_doubled quote text = flat_map (λ b. if b == quote then quote ∷ quote ∷ [] else b ∷ []) text
+with_quotes_doubled quote text =
+    flat_map (λ b. if b == quote then quote ∷ quote ∷ [] else b ∷ []) text
 
 -- A text between quotes.
 abbrev pub quoted_text : ℕ → List ℕ → List ℕ

@@ -1,6 +1,6 @@
 -- The codes, computed on examples.
 use Rattle.std.proofs.Common.{◌≡◌, ◌-◌, ◌^◌, Bool, [], ◌∷◌, pos, negsuc, true, false, refl, codes}
-use Rattle.semantics.specs.Syntax.{KeyForm, grouping}
+use Rattle.semantics.specs.Syntax.{SortKey, grouping}
 use Rattle.semantics.specs.Values.{boolean, text, null}
 use Rattle.sort_keys.specs.Codes.{index_code, key_code, value_code, number_code, values_code}
 
@@ -29,7 +29,7 @@ above = refl
 
 -- ---- under keys of ORDER BY
 
-abbrev under : Bool → Bool → KeyForm
+abbrev under : Bool → Bool → SortKey
 under descending nulls_first = record { expression = grouping []; descending = descending; nulls_first = nulls_first }
 
 true_descending : key_code (under true false) (boolean true) ≡ 253 ∷ []

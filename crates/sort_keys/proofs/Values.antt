@@ -9,8 +9,8 @@ use Rattle.std.specs.Ordering.{nat_cmp, int_cmp, ordering_reverse, ordering_then
 use Rattle.std.specs.Cmp.Lexicographic.{slice_cmp}
 use Rattle.std.specs.List.{AllByRecursion}
 use Rattle.semantics.specs.Groups.{key_order}
-use Rattle.semantics.specs.Order.{null_order, under_key}
-use Rattle.semantics.specs.Syntax.{KeyForm}
+use Rattle.semantics.specs.Order.{null_order, compare_by_key}
+use Rattle.semantics.specs.Syntax.{SortKey}
 use Rattle.semantics.specs.Values.{Datum, boolean, whole, text, null, is_null, value_order}
 use Rattle.sort_keys.specs.Codes.{IsCodable, complement, index_code, key_code, number_code, value_code, values_code}
 use Rattle.sort_keys.specs.Laws.{AreCodesInOrder}
@@ -190,7 +190,7 @@ complement-bytes : (s : List ℕ) → AreBytes (complement s)
 complement-bytes [] = tt
 complement-bytes (b ∷ s) = (omega arith, complement-bytes s)
 
-pub key-bytes : (k : KeyForm) (d : Datum) → IsCodable d → AreBytes (key_code k d)
+pub key-bytes : (k : SortKey) (d : Datum) → IsCodable d → AreBytes (key_code k d)
 key-bytes k d c = by-cases (is_null d) k.nulls_first k.descending
   where
     by-cases : (none first turned : Bool) → AreBytes (cond none (cond first (0 ∷ []) (255 ∷ [])) (cond turned (complement (value_code d)) (value_code d)))
@@ -255,12 +255,12 @@ nulls-tell true false false o s t a b h = h
 nulls-tell false false false o s t a b h = h
 
 -- values stand under a key as their codes under it do
-pub key-tell : (k : KeyForm) (a b : Datum) → IsCodable a → IsCodable b → Told (under_key k a b) (key_code k a) (key_code k b)
+pub key-tell : (k : SortKey) (a b : Datum) → IsCodable a → IsCodable b → Told (compare_by_key k a b) (key_code k a) (key_code k b)
 key-tell k a b c d =
     nulls-tell k.nulls_first (is_null a) (is_null b) (cond k.descending (ordering_reverse (value_order a b)) (value_order a b)) (directed k.descending a) (directed k.descending b)
     (directed-inner k.descending a c) (directed-inner k.descending b d) (directed-tell k.descending a b c d)
 
-pub codes-in-order : (k : KeyForm) (a b : Datum) → AreCodesInOrder k a b
+pub codes-in-order : (k : SortKey) (a b : Datum) → AreCodesInOrder k a b
 codes-in-order k a b c d s t = told-before s t (key-tell k a b c d)
 
 -- ---- indexes

@@ -2,7 +2,7 @@
 use Rattle.std.specs.Prelude.{ℕ, suc, ℤ, pos, negsuc, ⊤, ◌+◌, ◌-◌, ◌^◌, ◌<◌, nat_lt, true, false, List, ◌∷◌, ◌++◌, map, if◌then◌else◌, []}
 use Rattle.std.specs.Int.{bytes_high_first}
 use Rattle.std.specs.List.{AllByRecursion, flat_map}
-use Rattle.semantics.specs.Syntax.{KeyForm}
+use Rattle.semantics.specs.Syntax.{SortKey}
 use Rattle.semantics.specs.Values.{Datum, boolean, whole, text, null, is_null}
 
 -- A whole number of 64 bits is a 4 and then, in 8 bytes, how far it is above the least of them. A number below these is a 3 and
@@ -26,7 +26,7 @@ complement code = map (λ b. 255 - b) code
 
 -- Under a key of ORDER BY the code of a value that is not NULL is its own, and under DESC the complement of it. NULL is a 0
 -- where it is first, and else a 255.
-abbrev pub key_code : KeyForm → Datum → List ℕ
+abbrev pub key_code : SortKey → Datum → List ℕ
 key_code k d =
     if is_null d then (if k.nulls_first then 0 ∷ [] else 255 ∷ [])
     else if k.descending then complement (value_code d)

@@ -1,12 +1,12 @@
 //! Laws of the codes, with no work to do.
 ghost use Rattle.std.specs.Prelude.{ℕ, List};
-ghost use Rattle.semantics.specs.Syntax.{KeyForm};
+ghost use Rattle.semantics.specs.Syntax.{SortKey};
 ghost use Rattle.semantics.specs.Values.{Datum};
 ghost use Rattle.sort_keys.specs.Laws.{AreCodesInOrder, ArePartsInOrder};
 
 /// A law: codes stand to each other as the values do under a key of ORDER BY, whatever stands behind them.
 pub fn codes_law()
-    ensures { (k : KeyForm) (a b : Datum) → AreCodesInOrder k a b }
+    ensures { (k : SortKey) (a b : Datum) → AreCodesInOrder k a b }
 {}
 
 /// A law: where neither of two codes is the beginning of the other, their parts, in which a sort key has them, stand to

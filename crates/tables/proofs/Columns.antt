@@ -15,7 +15,7 @@ use Rattle.semantics.specs.Inside.Same.{same_planned}
 use Rattle.semantics.specs.Names.{place_of, places_of, PlannedFunction, aggregate_of, column_function, filter_of, planned_function}
 use Rattle.semantics.specs.SetFunctions.{functions_of, set_functions}
 use Rattle.semantics.specs.Sets.{grouping_names, grouping_places}
-use Rattle.semantics.specs.Syntax.{FunctionForm, PredicateForm, TreeForm}
+use Rattle.semantics.specs.Syntax.{SetFunction, Predicate, Query}
 use Rattle.group_tables.specs.Typed.{AreColumns, HasColumn, HaveColumns}
 use Rattle.tables.proofs.Bags.{all-distinct, all-everywhere, all-filter_map, all-map}
 
@@ -29,7 +29,7 @@ place-within fields name place e =
     omega (arith, at.0, long)
 
 -- the grouping columns are columns
-pub grouping-columns : (fields : List Field) (t : TreeForm) → AreColumns fields (grouping_places fields t)
+pub grouping-columns : (fields : List Field) (t : Query) → AreColumns fields (grouping_places fields t)
 grouping-columns fields t =
     all-distinct (IsPlace fields) (λ a b. a == b) (places_of fields (grouping_names t))
     (all-filter_map (IsPlace fields) (place_of fields) (grouping_names t)
@@ -57,19 +57,19 @@ of_column fields (aggregate.Avg x) f e = placed (HasColumn fields) function.Avg 
 same_planned_of : (f g : PlannedFunction) → Some f ≡ Some g → f ≡ g
 same_planned_of f g e = cc
 
-planned : (fields : List Field) (o : Option ColumnFunction) (t : Option PredicateForm) (f : PlannedFunction) → option_map (λ g. record { function = g; filter = t }) o ≡ Some f
+planned : (fields : List Field) (o : Option ColumnFunction) (t : Option Predicate) (f : PlannedFunction) → option_map (λ g. record { function = g; filter = t }) o ≡ Some f
     → ((g : ColumnFunction) → o ≡ Some g → HasColumn fields g) → HasColumn fields f.function
 planned fields None t f e h = cc
 planned fields (Some g) t f e h = subst (λ (p : PlannedFunction). HasColumn fields p.function) (same_planned_of (record { function = g; filter = t }) f e) (h g refl)
 
-of_function : (fields : List Field) (g : FunctionForm) (f : PlannedFunction) → planned_function fields g ≡ Some f → HasColumn fields f.function
+of_function : (fields : List Field) (g : SetFunction) (f : PlannedFunction) → planned_function fields g ≡ Some f → HasColumn fields f.function
 of_function fields g f e = planned fields (column_function fields (aggregate_of g)) (filter_of g) f e (of_column fields (aggregate_of g))
 
 abbrev Takes : List Field → PlannedFunction → Type 0
 Takes fields f = HasColumn fields f.function
 
 -- the set functions of a query have their columns
-pub functions-columns : (fields : List Field) (t : TreeForm) → HaveColumns fields (indexed_functions fields t)
+pub functions-columns : (fields : List Field) (t : Query) → HaveColumns fields (indexed_functions fields t)
 functions-columns fields t =
     all-map (λ f. HasColumn fields f.function) (indexed_function (filters_of fields t)) (functions_of fields t)
     (all-distinct (Takes fields) same_planned (filter_map (planned_function fields) (set_functions t))

@@ -1,7 +1,7 @@
 -- The definitions, computed on examples: an input is the line `a` and, read behind it, the lines `b` and `c`.
 use Rattle.std.proofs.Common.{◌≡◌, ℕ, List, [], ◌∷◌, refl, codes}
 use Rattle.lines.specs.declared.pieces.Piece.{Piece}
-use Rattle.semantics.specs.Order.{in_order}
+use Rattle.semantics.specs.Order.{sorted_by}
 use Rattle.semantics.specs.declared.line_fault.LineFault.{LineFault}
 use Rattle.semantics.specs.declared.line_fault.LineFault.TheVariants.{NoJson, NoObject}
 use Rattle.query_plan.specs.Planned.{PlannedQuery}
@@ -57,7 +57,7 @@ abbrev noted : ℕ → ℕ → List (ℕ × LineFault) → Noted
 noted index lines refused = record { index = index; lines = lines; refused = refused }
 
 -- notes stand by their indexes, and those of one index by what else they say
-ordered : in_order note_order (noted 2 1 [] ∷ noted 0 3 ((2, NoJson) ∷ []) ∷ noted 2 0 [] ∷ []) ≡ noted 0 3 ((2, NoJson) ∷ []) ∷ noted 2 0 [] ∷ noted 2 1 [] ∷ []
+ordered : sorted_by note_order (noted 2 1 [] ∷ noted 0 3 ((2, NoJson) ∷ []) ∷ noted 2 0 [] ∷ []) ≡ noted 0 3 ((2, NoJson) ∷ []) ∷ noted 2 0 [] ∷ noted 2 1 [] ∷ []
 ordered = refl
 
 -- a refused line has its number among the lines of all pieces before it and of its own

@@ -7,13 +7,13 @@ use Rattle.std.specs.Prelude.{⊤, All}
 use Rattle.std.specs.List.{AllByRecursion, AllPairs, AllZip, slice_index_or}
 use Rattle.query_resolve.specs.declared.function.FilteredFunction.{FilteredFunction}
 use Rattle.query_resolve.specs.Functions.{filters_of, indexed_function, indexed_functions}
-use Rattle.semantics.specs.Aggregates.{Summary}
+use Rattle.semantics.specs.Aggregates.{CellValue}
 use Rattle.semantics.specs.Columns.{Field}
-use Rattle.semantics.specs.Found.{Found, GroupSummary}
+use Rattle.semantics.specs.ResultRows.{ResultRow, GroupSummary}
 use Rattle.semantics.specs.Names.{PlannedFunction}
 use Rattle.semantics.specs.SetFunctions.{functions_of}
 use Rattle.semantics.specs.Sets.{sets_of}
-use Rattle.semantics.specs.Syntax.{PredicateForm, TreeForm}
+use Rattle.semantics.specs.Syntax.{Predicate, Query}
 use Rattle.group_tables.specs.declared.group.Group.{Group}
 use Rattle.group_tables.specs.Fitting.{AreFitting, HasType}
 use Rattle.group_tables.specs.Found.{rows_from}
@@ -45,11 +45,11 @@ pairs-append R (x ∷ xs) ys a b c = (all-append (R x) xs ys a.0 c.0, pairs-appe
 
 -- ---- the groups of one set
 
-abbrev with_index : ℕ → Group → Found
+abbrev with_index : ℕ → Group → ResultRow
 with_index n group = (n, group_summary_in group)
 
 -- a row is of another group than another one
-abbrev Differs : Found → Found → Type 0
+abbrev Differs : ResultRow → ResultRow → Type 0
 Differs x y = x.0 ≡ y.0 → x.1.key ≢ y.1.key
 
 abbrev DifferInKey : GroupSummary → GroupSummary → Type 0
@@ -64,29 +64,29 @@ set-differs : (n : ℕ) (gs : List Group) → ArePairs DifferInKey (map group_su
 set-differs n [] h = tt
 set-differs n (g ∷ gs) h = (others-differ n (group_summary_in g) gs h.0, set-differs n gs h.1)
 
-later-differ : (n m : ℕ) (x : GroupSummary) (rows : List Found) → n < m → AllByRecursion (λ row. m ≤ row.0) rows → AllByRecursion (Differs (n, x)) rows
+later-differ : (n m : ℕ) (x : GroupSummary) (rows : List ResultRow) → n < m → AllByRecursion (λ row. m ≤ row.0) rows → AllByRecursion (Differs (n, x)) rows
 later-differ n m x [] l h = tt
 later-differ n m x (row ∷ rows) l h = (λ e. absurd (let a = h.0 in omega (arith, e, a, l)), later-differ n m x rows l h.1)
 
-all-later : (n m : ℕ) (gs : List Group) (rows : List Found) → n < m → AllByRecursion (λ row. m ≤ row.0) rows
+all-later : (n m : ℕ) (gs : List Group) (rows : List ResultRow) → n < m → AllByRecursion (λ row. m ≤ row.0) rows
     → AllByRecursion (λ x. AllByRecursion (Differs x) rows) (map (with_index n) gs)
 all-later n m [] rows l h = tt
 all-later n m (g ∷ gs) rows l h = (later-differ n m (group_summary_in g) rows l h, all-later n m gs rows l h)
 
-at-index : (n m : ℕ) (gs : List Group) → n ≤ m → AllByRecursion (λ (row : Found). n ≤ row.0) (map (with_index m) gs)
+at-index : (n m : ℕ) (gs : List Group) → n ≤ m → AllByRecursion (λ (row : ResultRow). n ≤ row.0) (map (with_index m) gs)
 at-index n m [] l = tt
 at-index n m (g ∷ gs) l = (l, at-index n m gs l)
 
 -- the rows of the later sets have the later indexes
-from-index : (n m : ℕ) (groups : List (Vec Group Global)) → n ≤ m → AllByRecursion (λ (row : Found). n ≤ row.0) (rows_from m groups)
+from-index : (n m : ℕ) (groups : List (Vec Group Global)) → n ≤ m → AllByRecursion (λ (row : ResultRow). n ≤ row.0) (rows_from m groups)
 from-index n m [] l = tt
 from-index n m (gs ∷ groups) l =
-    all-append (λ (row : Found). n ≤ row.0) (map (with_index m) gs.items) (rows_from (m + 1) groups) (at-index n m gs.items l) (from-index n (m + 1) groups (omega (arith, l)))
+    all-append (λ (row : ResultRow). n ≤ row.0) (map (with_index m) gs.items) (rows_from (m + 1) groups) (at-index n m gs.items l) (from-index n (m + 1) groups (omega (arith, l)))
 
 -- ---- the groups of all sets
 
 module _ (fields : List Field) (functions : List FilteredFunction) where
-  abbrev HaveTypes : List Summary → Type 0
+  abbrev HaveTypes : List CellValue → Type 0
   HaveTypes cells = AllZip (λ f cell. HasType fields f.function cell) functions cells
 
   abbrev pub AreTyped : List ℕ → Vec Group Global → Type 0
@@ -105,7 +105,7 @@ module _ (fields : List Field) (functions : List FilteredFunction) where
 
   module _ (whole : List (List ℕ)) where
     -- the index of a row is that of a set, and its key and its cells have the types of the set and of the functions
-    abbrev Fits : Found → Type 0
+    abbrev Fits : ResultRow → Type 0
     Fits row = (row.0 < length whole) × IsKeyOf fields (slice_index_or whole row.0 []) row.1.key × HaveTypes row.1.cells
 
     set-fits : (n : ℕ) (set : List ℕ) (gs : List Group) → n < length whole → slice_index_or whole n [] ≡ set
@@ -133,14 +133,14 @@ module _ (fields : List Field) (functions : List FilteredFunction) where
 -- ---- they fit the query
 
 -- each cell has the type of its set function, whatever the index of its filter
-cells-of : (fields : List Field) (filters : List PredicateForm) (fs : List PlannedFunction) (cells : List Summary)
+cells-of : (fields : List Field) (filters : List Predicate) (fs : List PlannedFunction) (cells : List CellValue)
     → AllZip (λ f cell. HasType fields f.function cell) (map (indexed_function filters) fs) cells → AllZip (λ f cell. HasType fields f.function cell) fs cells
 cells-of fields filters [] [] h = h
 cells-of fields filters [] (cell ∷ cells) h = h
 cells-of fields filters (f ∷ fs) [] h = h
 cells-of fields filters (f ∷ fs) (cell ∷ cells) h = (h.0, cells-of fields filters fs cells h.1)
 
-pub fitting-from_types : (fields : List Field) (t : TreeForm) (groups : List (Vec Group Global)) → AllZip (AreTyped fields (indexed_functions fields t)) (sets_of fields t) groups
+pub fitting-from_types : (fields : List Field) (t : Query) (groups : List (Vec Group Global)) → AllZip (AreTyped fields (indexed_functions fields t)) (sets_of fields t) groups
     → AreFitting fields t (rows_from 0 groups)
 fitting-from_types fields t groups h =
     let sets = sets_of fields t in

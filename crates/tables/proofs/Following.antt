@@ -13,7 +13,7 @@ use Rattle.semantics.specs.Lines.{line_feed, lines, without_empty_last}
 use Rattle.lines.specs.Pieces.{AreWholeLines}
 use Rattle.lines.proofs.Fronts.{valid-whole_lines, lines-whole_lines, refused-whole_lines}
 use Rattle.group_tables.specs.Bags.{SameBag}
-use Rattle.semantics.specs.Order.{in_order}
+use Rattle.semantics.specs.Order.{sorted_by}
 use Rattle.tables.specs.Inside.Notes.{AreLinesBehind, AreLinesOf}
 use Rattle.tables.specs.Notes.{IsWellNumbered, Noted, line_count, note_of, note_order, refused_lines_from}
 use Rattle.tables.specs.Partials.{note_of_one, notes_of_one, one_piece, whole_piece}
@@ -213,7 +213,7 @@ one-sound (suc more) found notes low is =
     )
 
 -- they stand in their order
-pub one-in_order : (count : ℕ) (found : List (ℕ × LineFault)) → in_order note_order (notes_of_one count found) ≡ notes_of_one count found
+pub one-in_order : (count : ℕ) (found : List (ℕ × LineFault)) → sorted_by note_order (notes_of_one count found) ≡ notes_of_one count found
 one-in_order zero found = refl
 one-in_order (suc more) found = refl
 
@@ -222,6 +222,6 @@ some-notes zero found some = absurd (omega (arith, some))
 some-notes (suc more) found some = refl
 
 -- those of an input
-pub one-noted : (fields : List Field) (input : List ℕ) → notes_of_one (length (lines input)) (refused_lines fields input) ≡ in_order note_order (map (note_of fields) (one_piece input))
+pub one-noted : (fields : List Field) (input : List ℕ) → notes_of_one (length (lines input)) (refused_lines fields input) ≡ sorted_by note_order (map (note_of fields) (one_piece input))
 one-noted fields [] = refl
 one-noted fields (b ∷ bytes) = some-notes (length (lines (b ∷ bytes))) (refused_lines fields (b ∷ bytes)) (some-line b bytes)

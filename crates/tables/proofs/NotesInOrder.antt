@@ -3,7 +3,7 @@ use Rattle.std.proofs.Common.{◌≡◌, ◌<◌, ℕ, List, [], ◌∷◌, map,
 use Rattle.std.specs.List.{AllByRecursion, IsDistinct}
 use Rattle.std.specs.Cmp.Lexicographic.{slice_cmp}
 use Rattle.std.specs.Ordering.{is_gt, nat_cmp, ordering_then}
-use Rattle.semantics.specs.Order.{in_order}
+use Rattle.semantics.specs.Order.{sorted_by}
 use Rattle.semantics.specs.declared.line_fault.LineFault.{LineFault}
 use Rattle.group_tables.specs.Ascending.{Ascends, NoneBefore}
 use Rattle.group_tables.specs.Bags.{SameBag}
@@ -28,14 +28,14 @@ ascends-rising (a ∷ notes) up = (none-before a notes up.0, ascends-rising note
 pub rising-same : (notes others : List Noted) → Rises index_of notes → Rises index_of others → SameBag notes others → notes ≡ others
 rising-same notes others a b same = one-ascending note-total note-antisymmetric notes others (ascends-rising notes a) (ascends-rising others b) same
 
-pub rising-in_order : (notes : List Noted) → Rises index_of notes → in_order note_order notes ≡ notes
+pub rising-in_order : (notes : List Noted) → Rises index_of notes → sorted_by note_order notes ≡ notes
 rising-in_order notes up =
-    one-ascending note-total note-antisymmetric (in_order note_order notes) notes (ascends-in_order note-total notes) (ascends-rising notes up)
+    one-ascending note-total note-antisymmetric (sorted_by note_order notes) notes (ascends-in_order note-total notes) (ascends-rising notes up)
     (λ w. sum_by-in_order note_order w notes)
 
 -- where no index stands twice, the lines of notes are numbered in the order of these
-pub lines-own : (notes : List Noted) (found : List (ℕ × LineFault)) → IsDistinct nat_eq (map index_of (in_order note_order notes)) → AreLinesOf notes found
-    → found ≡ refused_lines_from 0 (in_order note_order notes)
+pub lines-own : (notes : List Noted) (found : List (ℕ × LineFault)) → IsDistinct nat_eq (map index_of (sorted_by note_order notes)) → AreLinesOf notes found
+    → found ≡ refused_lines_from 0 (sorted_by note_order notes)
 lines-own notes found own are =
-    let rise = rises-ordered index_of (in_order note_order notes) are.ordered own (λ w. sum_by-in_order note_order w notes ∙ are.same w) are.ascending in
+    let rise = rises-ordered index_of (sorted_by note_order notes) are.ordered own (λ w. sum_by-in_order note_order w notes ∙ are.same w) are.ascending in
     are.numbered ∙ ap (refused_lines_from 0) (sym (notes-same notes are.ordered are.same ∙ rising-in_order are.ordered rise))

@@ -14,7 +14,7 @@ use Rattle.semantics.specs.Records.{refused_lines, decode_line}
 use Rattle.semantics.specs.Lines.{lines}
 use Rattle.group_tables.specs.Bags.{SameBag}
 use Rattle.group_tables.proofs.Bags.{bag-map, sum_by-flat_map}
-use Rattle.semantics.specs.Order.{in_order}
+use Rattle.semantics.specs.Order.{sorted_by}
 use Rattle.tables.specs.Inside.Notes.{AreLinesOf}
 use Rattle.tables.specs.Notes.{Noted, note_of, note_order, refused_lines_from}
 use Rattle.tables.specs.Pieces.{AreInOrder, AreNumbered, HaveOwnIndexes, IndexedPiece, all_lines, pieces_before, refused_lines_numbered}
@@ -112,12 +112,12 @@ pub lines-in_order : (fields : List Field) (pieces : List IndexedPiece) (notes :
 lines-in_order fields pieces notes lines o = lines-rising fields pieces notes lines (rising-pieces pieces o)
 
 -- the notes of pieces that stand in their order
-pub notes-in_order : (fields : List Field) (pieces : List IndexedPiece) → AreInOrder pieces → in_order note_order (map (note_of fields) pieces) ≡ map (note_of fields) pieces
+pub notes-in_order : (fields : List Field) (pieces : List IndexedPiece) → AreInOrder pieces → sorted_by note_order (map (note_of fields) pieces) ≡ map (note_of fields) pieces
 notes-in_order fields pieces o = rising-in_order (map (note_of fields) pieces) (notes-rise fields pieces (rising-pieces pieces o))
 
 -- none of their indexes stands twice
 pub own-in_order : (fields : List Field) (pieces : List IndexedPiece) → AreInOrder pieces
-    → IsDistinct nat_eq (map (λ (note : Noted). note.index) (in_order note_order (map (note_of fields) pieces)))
+    → IsDistinct nat_eq (map (λ (note : Noted). note.index) (sorted_by note_order (map (note_of fields) pieces)))
 own-in_order fields pieces o =
     subst (λ (ns : List Noted). IsDistinct nat_eq (map (λ (note : Noted). note.index) ns)) (sym (notes-in_order fields pieces o))
     (distinct-from_rises (λ (note : Noted). note.index) (map (note_of fields) pieces) (notes-rise fields pieces (rising-pieces pieces o)))

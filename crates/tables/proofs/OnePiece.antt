@@ -3,10 +3,10 @@ use Rattle.std.proofs.Common.{◌≡◌, ◌+◌, [], ◌∷◌, ◌++◌, ℕ, 
 use Rattle.lines.specs.Pieces.{AreWholeLines}
 use Rattle.lines.proofs.Fronts.{refused-whole_lines}
 use Rattle.semantics.specs.Conditions.{kept_records}
-use Rattle.semantics.specs.Found.{aggregate_functions}
-use Rattle.semantics.specs.Groups.{Row}
+use Rattle.semantics.specs.ResultRows.{aggregate_functions}
+use Rattle.semantics.specs.Groups.{Record}
 use Rattle.semantics.specs.Lines.{lines}
-use Rattle.semantics.specs.Order.{in_order}
+use Rattle.semantics.specs.Order.{sorted_by}
 use Rattle.semantics.specs.Records.{refused_lines}
 use Rattle.semantics.specs.Sets.{grouping_places}
 use Rattle.semantics.specs.declared.line_fault.LineFault.{LineFault}
@@ -25,7 +25,7 @@ use Rattle.tables.proofs.Numbered.{notes-in_order, own-in_order}
 use Rattle.tables.proofs.Standing.{Has, has-from, stands-from}
 
 module _ (plan : PlannedQuery) (partial : PartialState) (input : List ℕ) (given : StandsForInput plan partial input) where
-  noted : partial.notes ≡ in_order note_order (map (note_of plan.fields) given.pieces)
+  noted : partial.notes ≡ sorted_by note_order (map (note_of plan.fields) given.pieces)
   noted = ap (λ (p : PartialState). p.notes) given.stands
 
   has : Has plan partial (map (note_of plan.fields) given.pieces) given.pieces
@@ -53,7 +53,7 @@ module _ (plan : PlannedQuery) (partial : PartialState) (input : List ℕ) (give
         sets = has.sets;
         functions = has.functions;
         filters = has.filters;
-        table = subst (λ (rows : List Row). IsTableOf (grouping_places plan.fields plan.query) (aggregate_functions plan.fields plan.query) partial.table (kept_records plan.fields plan.query rows))
+        table = subst (λ (rows : List Record). IsTableOf (grouping_places plan.fields plan.query) (aggregate_functions plan.fields plan.query) partial.table (kept_records plan.fields plan.query rows))
             (sym (one-records plan.fields input given.pieces given.cut)) has.table;
         lines = has.lines ∙ sym (one-lines input given.pieces given.cut);
         refused = has.refused ∙ sym (one-refused plan.fields input given.pieces given.cut);
@@ -90,7 +90,7 @@ behind-stands plan front rest before after given other whole =
       sets = first.sets;
       functions = first.functions;
       filters = first.filters;
-      table = subst (λ (rs : List Row). IsTableOf grouping fs (both_tables front.table rest.table) rs) (sym rows)
+      table = subst (λ (rs : List Record). IsTableOf grouping fs (both_tables front.table rest.table) rs) (sym rows)
           (table-joined grouping fs front.table rest.table (both_tables front.table rest.table) (kept_records fields plan.query (records_of fields given.pieces))
           (kept_records fields plan.query (records_of fields other.pieces)) first.table second.table (both_tables-has front.table rest.table));
       lines = (let line = whole-lines input in omega (arith, many, line));

@@ -11,10 +11,10 @@ use Rattle.semantics.specs.Columns.{Field}
 use Rattle.semantics.specs.declared.line_fault.LineFault.{LineFault}
 use Rattle.semantics.specs.Lines.{line_feed, lines, without_empty_last}
 use Rattle.semantics.specs.Records.{decode_line, valid_records}
-use Rattle.semantics.specs.Found.{aggregate_functions}
+use Rattle.semantics.specs.ResultRows.{aggregate_functions}
 use Rattle.semantics.specs.Sets.{grouping_places}
 use Rattle.semantics.specs.Conditions.{is_kept, kept_records}
-use Rattle.semantics.specs.Groups.{Row}
+use Rattle.semantics.specs.Groups.{Record}
 use Rattle.group_tables.specs.Table.{Contents, IsTableOf, both_tables, table_of}
 use Rattle.group_tables.proofs.GroupsLaw.{table-is}
 use Rattle.group_tables.proofs.Joint.{table_of-append}
@@ -134,26 +134,26 @@ refused-numbers fields ls = All-from_recursion (λ line. line.0 ≤ length ls) (
     (at-most (length ls) (refused_lines_of fields ls) (numbers-below (length ls + 1) 1 (map (decode_line fields) ls) (let long = length-map ls (decode_line fields) in omega (arith, long))))
 
 -- behind these records no line has been read
-pub nothing-read : (plan : PlannedQuery) (before : List Row) (table : Contents) (folding : Folding)
+pub nothing-read : (plan : PlannedQuery) (before : List Record) (table : Contents) (folding : Folding)
     → IsTableOf (grouping_places plan.fields plan.query) (aggregate_functions plan.fields plan.query) table (kept_records plan.fields plan.query before)
     → folding.table ≡ table → folding.lines ≡ 0 → folding.refused ≡ 0 → folding.refusals ≡ [] → HasRead plan before folding []
 nothing-read plan before table folding held same none nobody nothing = record {
   table = subst (λ (t : Contents). IsTableOf (grouping_places plan.fields plan.query) (aggregate_functions plan.fields plan.query) t (kept_records plan.fields plan.query (before ++ []))) (sym same)
-      (subst (λ (rows : List Row). IsTableOf (grouping_places plan.fields plan.query) (aggregate_functions plan.fields plan.query) table (kept_records plan.fields plan.query rows)) (sym (append-nil before)) held);
+      (subst (λ (rows : List Record). IsTableOf (grouping_places plan.fields plan.query) (aggregate_functions plan.fields plan.query) table (kept_records plan.fields plan.query rows)) (sym (append-nil before)) held);
   lines = none;
   count = nobody;
   refused = nothing;
 }
 
 -- some lines have been read, and with those that are left they are all
-pub record HasReadSome (plan : PlannedQuery) (before : List Row) (folding : Folding) (left all : List (List ℕ)) : Type 0 where
+pub record HasReadSome (plan : PlannedQuery) (before : List Record) (folding : Folding) (left all : List (List ℕ)) : Type 0 where
   pub seen : List (List ℕ)
   pub has_read : HasRead plan before folding seen
   pub is : seen ++ left ≡ all
 
 -- ---- a line that has been read
 
-pub read-ok : (plan : PlannedQuery) (before : List Row) (old new : Folding) (seen : List (List ℕ)) (line : List ℕ) (row : List Datum) → decode_line plan.fields line ≡ Ok row → HasRead plan before old seen
+pub read-ok : (plan : PlannedQuery) (before : List Record) (old new : Folding) (seen : List (List ℕ)) (line : List ℕ) (row : List Datum) → decode_line plan.fields line ≡ Ok row → HasRead plan before old seen
     → ((rows : List (List Datum)) → IsTableOf (grouping_places plan.fields plan.query) (aggregate_functions plan.fields plan.query) old.table (kept_records plan.fields plan.query rows) → IsTableOf (grouping_places plan.fields plan.query) (aggregate_functions plan.fields plan.query) new.table (kept_records plan.fields plan.query (rows ++ row ∷ [])))
     → new.lines ≡ old.lines → new.refused ≡ old.refused → new.refusals ≡ old.refusals
     → HasRead plan before (record { table = new.table; lines = new.lines + 1; refused = new.refused; refusals = new.refusals; marks = new.marks }) (seen ++ line ∷ [])
@@ -166,7 +166,7 @@ read-ok plan before old new seen line row e h added same count stay = record {
   refused = stay ∙ h.refused ∙ sym (refused-ok plan.fields seen line row e);
 }
 
-pub read-err : (plan : PlannedQuery) (before : List Row) (old new : Folding) (seen : List (List ℕ)) (line : List ℕ) (fault : LineFault) → decode_line plan.fields line ≡ Err fault → HasRead plan before old seen
+pub read-err : (plan : PlannedQuery) (before : List Record) (old new : Folding) (seen : List (List ℕ)) (line : List ℕ) (fault : LineFault) → decode_line plan.fields line ≡ Err fault → HasRead plan before old seen
     → new.table ≡ old.table → new.lines ≡ old.lines → new.refused ≡ old.refused + 1 → new.refusals ≡ old.refusals ++ (old.lines + 1, fault) ∷ []
     → HasRead plan before (record { table = new.table; lines = new.lines + 1; refused = new.refused; refusals = new.refusals; marks = new.marks }) (seen ++ line ∷ [])
 read-err plan before old new seen line fault e h stay same one more = record {
@@ -180,7 +180,7 @@ read-err plan before old new seen line fault e h stay same one more = record {
 -- ---- records behind those of earlier pieces
 
 -- the records that are kept, of earlier ones and of these lines, are no more than the earlier ones and the lines
-pub length-kept_behind : (plan : PlannedQuery) (before : List Row) (ls : List (List ℕ)) → length (kept_records plan.fields plan.query (before ++ valid_records_of plan.fields ls)) ≤ length before + length ls
+pub length-kept_behind : (plan : PlannedQuery) (before : List Record) (ls : List (List ℕ)) → length (kept_records plan.fields plan.query (before ++ valid_records_of plan.fields ls)) ≤ length before + length ls
 length-kept_behind plan before ls =
     let few = length-kept plan (before ++ valid_records_of plan.fields ls) in
     let both = length-append before (valid_records_of plan.fields ls) in
@@ -193,7 +193,7 @@ well-numbered fields n refused ls e f =
     subst (λ (rs : List (ℕ × LineFault)). All (λ line. line.0 ≤ n) rs) (sym f) (subst (λ m. All (λ line. line.0 ≤ m) (refused_lines_of fields ls)) (sym e) (refused-numbers fields ls))
 
 -- what is read onto a table is put together with it
-pub read-both : (plan : PlannedQuery) (table : Contents) (before : List Row) (folding : Folding) (bytes : List ℕ)
+pub read-both : (plan : PlannedQuery) (table : Contents) (before : List Record) (folding : Folding) (bytes : List ℕ)
     → IsTableOf (grouping_places plan.fields plan.query) (aggregate_functions plan.fields plan.query) table (kept_records plan.fields plan.query before)
     → HasRead plan before folding (lines bytes) → folding.table ≡ both_tables table (of_pieces plan (whole_piece bytes)).table
 read-both plan table before folding bytes is read =

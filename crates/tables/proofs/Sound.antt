@@ -7,8 +7,8 @@ use Rattle.query_resolve.specs.declared.function.FilteredFunction.{FilteredFunct
 use Rattle.query_resolve.specs.Functions.{indexed_functions}
 use Rattle.semantics.specs.Aggregates.{AggregateFunction}
 use Rattle.semantics.specs.Columns.{Field}
-use Rattle.semantics.specs.Found.{aggregate_functions}
-use Rattle.semantics.specs.Groups.{Key, Row, key_order}
+use Rattle.semantics.specs.ResultRows.{aggregate_functions}
+use Rattle.semantics.specs.Groups.{Key, Record, key_order}
 use Rattle.semantics.specs.Sets.{grouping_places}
 use Rattle.group_tables.specs.Entries.{entry_at, table_entries}
 use Rattle.group_tables.specs.Group.{GroupState}
@@ -26,14 +26,14 @@ use Rattle.query_plan.specs.Planned.{PlannedQuery}
 -- ---- of records
 
 -- the groups of a query's table have no more records than the table is of
-pub table-counted : (plan : PlannedQuery) (table : Contents) (rows : List Row) (most : ℕ)
+pub table-counted : (plan : PlannedQuery) (table : Contents) (rows : List Record) (most : ℕ)
     → IsTableOf (grouping_places plan.fields plan.query) (aggregate_functions plan.fields plan.query) table rows → length rows ≤ most → IsCounted most (indexed_functions plan.fields plan.query) table
 table-counted plan table rows most is few =
     records-counted most (grouping_places plan.fields plan.query) (indexed_functions plan.fields plan.query) (filter_tests plan) table rows
     (subst (λ (fs : List AggregateFunction). IsTableOf (grouping_places plan.fields plan.query) fs table rows) (sym (bound-functions plan)) is) few
 
 -- and have the types of its columns and set functions, where the records fit the columns
-pub table-typed : (plan : PlannedQuery) (table : Contents) (rows : List Row)
+pub table-typed : (plan : PlannedQuery) (table : Contents) (rows : List Record)
     → IsTableOf (grouping_places plan.fields plan.query) (aggregate_functions plan.fields plan.query) table rows → AllFit plan.fields rows
     → IsTypedTable plan.fields (grouping_places plan.fields plan.query) (indexed_functions plan.fields plan.query) table
 table-typed plan table rows is fit =

@@ -3,8 +3,8 @@ use Rattle.std.proofs.Common.{[], ◌∷◌, ◌≡◌, ◌+◌, ◌++◌, List,
 use Rattle.std.proofs.Math.Logic.{∥∥₁_map₂}
 use Rattle.std.specs.Coded.{Coded-set}
 use Rattle.semantics.specs.Conditions.{kept_records}
-use Rattle.semantics.specs.Found.{aggregate_functions}
-use Rattle.semantics.specs.Order.{in_order}
+use Rattle.semantics.specs.ResultRows.{aggregate_functions}
+use Rattle.semantics.specs.Order.{sorted_by}
 use Rattle.semantics.specs.Sets.{grouping_places, sets_of}
 use Rattle.query_plan.specs.Planned.{PlannedQuery}
 use Rattle.query_resolve.specs.Functions.{indexed_functions}
@@ -33,7 +33,7 @@ pub record Has (plan : PlannedQuery) (partial : PartialState) (listed : List Not
 
 -- what has all this stands for the pieces
 pub stands-from : (plan : PlannedQuery) (partial : PartialState) (notes : List Noted) (pieces : List IndexedPiece)
-    → partial.notes ≡ in_order note_order notes → Has plan partial notes pieces → StandsFor plan partial pieces
+    → partial.notes ≡ sorted_by note_order notes → Has plan partial notes pieces → StandsFor plan partial pieces
 stands-from plan partial notes pieces ordered has =
     let table = table-is (grouping_places plan.fields plan.query) (aggregate_functions plan.fields plan.query) partial.table
     (kept_records plan.fields plan.query (records_of plan.fields pieces)) has.table in
@@ -50,7 +50,7 @@ stands-from plan partial notes pieces ordered has =
 
 -- and what stands for them has it
 pub has-from : (plan : PlannedQuery) (partial : PartialState) (notes : List Noted) (pieces : List IndexedPiece)
-    → partial.notes ≡ in_order note_order notes → StandsFor plan partial pieces → Has plan partial notes pieces
+    → partial.notes ≡ sorted_by note_order notes → StandsFor plan partial pieces → Has plan partial notes pieces
 has-from plan partial notes pieces ordered stands =
     let grouping = grouping_places plan.fields plan.query in
     let fs = aggregate_functions plan.fields plan.query in
@@ -85,7 +85,7 @@ partial-more plan before p piece a is = partial-both plan before (of_piece plan 
 
 pub both-from : (first second p : PartialState) → p.sets ≡ first.sets → p.functions ≡ first.functions → p.filters ≡ first.filters
     → p.table ≡ both_tables first.table second.table → p.lines ≡ first.lines + second.lines → p.refused ≡ first.refused + second.refused
-    → p.notes ≡ in_order note_order (first.notes ++ second.notes) → p ≡ both first second
+    → p.notes ≡ sorted_by note_order (first.notes ++ second.notes) → p ≡ both first second
 both-from first second p sets functions filters table count refused notes =
     λ i. record { sets = sets i; functions = functions i; filters = filters i; table = table i; lines = count i; refused = refused i; notes = notes i }
 

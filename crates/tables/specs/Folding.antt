@@ -5,10 +5,10 @@ use Rattle.std.specs.Result.{result_ok, result_err}
 use Rattle.semantics.specs.Columns.{Field}
 use Rattle.semantics.specs.declared.line_fault.LineFault.{LineFault}
 use Rattle.semantics.specs.Records.{decode_line}
-use Rattle.semantics.specs.Groups.{Row}
+use Rattle.semantics.specs.Groups.{Record}
 
 -- the valid records of these lines
-abbrev pub valid_records_of : List Field → List (List ℕ) → List Row
+abbrev pub valid_records_of : List Field → List (List ℕ) → List Record
 valid_records_of fields ls = filter_map result_ok (map (decode_line fields) ls)
 
 -- the refused ones of these lines, numbered from 1

@@ -14,11 +14,11 @@ use Rattle.std.specs.declared.cmp.Ordering.{Ordering}
 use Rattle.std.specs.declared.cmp.Ordering.TheVariants.{Less, Equal, Greater}
 use Rattle.semantics.specs.Columns.{Field}
 use Rattle.semantics.specs.Conditions.{is_kept, kept_records}
-use Rattle.semantics.specs.Found.{aggregate_functions}
-use Rattle.semantics.specs.Groups.{Row}
+use Rattle.semantics.specs.ResultRows.{aggregate_functions}
+use Rattle.semantics.specs.Groups.{Record}
 use Rattle.semantics.specs.Lines.{lines}
-use Rattle.semantics.specs.Order.{in_order}
-use Rattle.semantics.specs.Records.{answers, decode_line, refused_lines, valid_records}
+use Rattle.semantics.specs.Order.{sorted_by}
+use Rattle.semantics.specs.Records.{line_results, decode_line, refused_lines, valid_records}
 use Rattle.semantics.specs.Sets.{grouping_places, sets_of}
 use Rattle.semantics.specs.Values.{Datum}
 use Rattle.semantics.specs.declared.line_fault.LineFault.{LineFault}
@@ -44,7 +44,7 @@ use Rattle.tables.specs.Pieces.{IndexedPiece, all_lines, records_of, refused_lin
 pub records-append : (fields : List Field) (pieces more : List IndexedPiece) → records_of fields (pieces ++ more) ≡ records_of fields pieces ++ records_of fields more
 records-append fields pieces more = flat_map-append (λ piece. valid_records fields piece.bytes) pieces more
 
-pub kept-append : (plan : PlannedQuery) (rows more : List Row)
+pub kept-append : (plan : PlannedQuery) (rows more : List Record)
     → kept_records plan.fields plan.query (rows ++ more) ≡ kept_records plan.fields plan.query rows ++ kept_records plan.fields plan.query more
 kept-append plan rows more = filter-append (is_kept plan.fields plan.query) rows more
 
@@ -104,7 +104,7 @@ note-antisymmetric a b e =
     let refused = slice_cmp-IsAntisymmetric line-antisymmetric a.refused b.refused rest.1 in
     λ i. record { index = index i; lines = count i; refused = refused i }
 
-pub notes-same : (notes others : List Noted) → SameBag notes others → in_order note_order notes ≡ in_order note_order others
+pub notes-same : (notes others : List Noted) → SameBag notes others → sorted_by note_order notes ≡ sorted_by note_order others
 notes-same notes others = in_order-same note-total note-antisymmetric notes others
 
 -- ---- pieces in any order
@@ -147,10 +147,10 @@ pieces-append plan xs ys =
     let table = ap (table_of grouping fs) rows ∙ table_of-append grouping fs first second in
     let count = lines-append xs ys in
     let refused = refused-append plan.fields xs ys in
-    let notes = notes-same (map note (xs ++ ys)) (in_order note_order (map note xs) ++ in_order note_order (map note ys)) (λ w.
+    let notes = notes-same (map note (xs ++ ys)) (sorted_by note_order (map note xs) ++ sorted_by note_order (map note ys)) (λ w.
     let a = ap (sum_by w) (map-append note xs ys) in
     let b = sum_by-append w (map note xs) (map note ys) in
-    let c = sum_by-append w (in_order note_order (map note xs)) (in_order note_order (map note ys)) in
+    let c = sum_by-append w (sorted_by note_order (map note xs)) (sorted_by note_order (map note ys)) in
     let d = sum_by-in_order note_order w (map note xs) in
     let e = sum_by-in_order note_order w (map note ys) in
     omega (arith, a, b, c, d, e)) in
@@ -191,7 +191,7 @@ few-refused : (fields : List Field) (pieces : List IndexedPiece) → length (ref
 few-refused fields [] = omega arith
 few-refused fields (p ∷ pieces) =
     let more = few-refused fields pieces in
-    let here = few-faults 1 (answers fields p.bytes) in
+    let here = few-faults 1 (line_results fields p.bytes) in
     let many = length-map (lines p.bytes) (decode_line fields) in
     let a = length-append (refused_lines fields p.bytes) (refused_lines_within fields pieces) in
     let b = length-append (lines p.bytes) (all_lines pieces) in

@@ -5,9 +5,9 @@ use Rattle.std.specs.Prelude.{◌≡◌, ◌+◌, ℕ, suc, zero, List, ◌∷�
 use Rattle.std.specs.List.{IsDistinct}
 use Rattle.semantics.specs.declared.line_fault.LineFault.{LineFault}
 use Rattle.semantics.specs.Conditions.{kept_records}
-use Rattle.semantics.specs.Found.{aggregate_functions, query_found}
-use Rattle.semantics.specs.Groups.{Row}
-use Rattle.semantics.specs.Order.{in_order}
+use Rattle.semantics.specs.ResultRows.{aggregate_functions, rows_before_having}
+use Rattle.semantics.specs.Groups.{Record}
+use Rattle.semantics.specs.Order.{sorted_by}
 use Rattle.semantics.specs.Records.{refused_lines, valid_records}
 use Rattle.semantics.specs.Sets.{grouping_places, sets_of}
 use Rattle.query_plan.specs.Planned.{PlannedQuery}
@@ -31,7 +31,7 @@ of_pieces plan pieces = record {
   table = table_of (grouping_places plan.fields plan.query) (aggregate_functions plan.fields plan.query) (kept_records plan.fields plan.query (records_of plan.fields pieces));
   lines = length (all_lines pieces);
   refused = length (refused_lines_within plan.fields pieces);
-  notes = in_order note_order (map (note_of plan.fields) pieces);
+  notes = sorted_by note_order (map (note_of plan.fields) pieces);
 }
 
 -- what no pieces come to
@@ -73,7 +73,7 @@ both first second = record {
   table = both_tables first.table second.table;
   lines = first.lines + second.lines;
   refused = first.refused + second.refused;
-  notes = in_order note_order (first.notes ++ second.notes);
+  notes = sorted_by note_order (first.notes ++ second.notes);
 }
 
 -- ---- as one piece
@@ -138,8 +138,8 @@ pub record DiffersInNotes (before partial : PartialState) : Type 0 where
 -- ---- results
 
 -- the rows are those of the groups that the query finds in a list of records
-abbrev pub GivesGroups : PlannedQuery → GroupsState → List Row → Type 0
-GivesGroups plan groups rows = SameBag groups.found (query_found plan.fields plan.query rows)
+abbrev pub GivesGroups : PlannedQuery → GroupsState → List Record → Type 0
+GivesGroups plan groups rows = SameBag groups.found (rows_before_having plan.fields plan.query rows)
 
 -- the rows are those of the groups of the valid records of an input, and the refused lines are its refused lines
 pub record IsResultOf (plan : PlannedQuery) (groups : GroupsState) (input : List ℕ) : Type 0 where

@@ -9,7 +9,7 @@ use Rattle.semantics.specs.Records.{valid_records, refused_lines}
 use Rattle.lines.specs.Pieces.{AllButLast, EndsInFeed, bytes_of}
 use Rattle.lines.specs.declared.pieces.Piece.{Piece}
 use Rattle.group_tables.specs.Bags.{SameBag}
-use Rattle.semantics.specs.Groups.{Row}
+use Rattle.semantics.specs.Groups.{Record}
 
 -- a piece of an input: its index among the pieces, and its bytes
 pub record IndexedPiece : Type 0 where
@@ -25,7 +25,7 @@ abbrev pub all_lines : List IndexedPiece → List (List ℕ)
 all_lines pieces = flat_map (λ piece. lines piece.bytes) pieces
 
 -- the valid records of all lines of the pieces
-abbrev pub records_of : List Field → List IndexedPiece → List Row
+abbrev pub records_of : List Field → List IndexedPiece → List Record
 records_of fields pieces = flat_map (λ piece. valid_records fields piece.bytes) pieces
 
 -- the refused lines of the pieces, each by its number within its piece

@@ -4,22 +4,22 @@ use Rattle.semantics.specs.Sets.{grouping_places}
 use Rattle.semantics.specs.Conditions.{kept_records}
 use Rattle.group_tables.specs.declared.group.Group.{Group}
 use Rattle.group_tables.specs.Bags.{SameBag}
-use Rattle.semantics.specs.Groups.{Key, members, Row}
+use Rattle.semantics.specs.Groups.{Key, members, Record}
 use Rattle.group_tables.specs.GroupSummaries.{group_summaries, group_summary_in}
 use Rattle.group_tables.specs.Rolled.{AreAmong, finer_members}
 use Rattle.query_plan.specs.Planned.{PlannedQuery}
 use Rattle.group_tables.specs.Fitting.{AreFitting}
-use Rattle.semantics.specs.Found.{Found, aggregate_functions}
+use Rattle.semantics.specs.ResultRows.{ResultRow, aggregate_functions}
 use Rattle.tables.specs.Members.{HasEachRecordOnce}
 use Rattle.tables.specs.Partials.{GivesGroups, IsResultOf, StandsFor}
 use Rattle.tables.specs.Pieces.{AreInOrder, AreNumbered, HaveOwnIndexes, IndexedPiece, IsCutInto, records_of, refused_lines_numbered}
 use Rattle.tables.specs.States.{GroupsState, PartialState}
 
-abbrev pub AreFittingUnder : PlannedQuery → List Found → Type 0
+abbrev pub AreFittingUnder : PlannedQuery → List ResultRow → Type 0
 AreFittingUnder plan found = AreFitting plan.fields plan.query found
 
 -- groups that fit the query of some plan
-abbrev pub FitSomePlan : List Found → Type 0
+abbrev pub FitSomePlan : List ResultRow → Type 0
 FitSomePlan found = ∥ ((plan : PlannedQuery) × AreFittingUnder plan found) ∥₁
 
 -- each place of the set is that of a grouping column
@@ -27,13 +27,13 @@ abbrev pub AreGroupingColumns : PlannedQuery → List ℕ → Type 0
 AreGroupingColumns plan set = AreAmong set (grouping_places plan.fields plan.query)
 
 -- the groups are those of the records that WHERE keeps under a set of columns: one for each key, and no other
-abbrev pub GivesGroupsOfSet : PlannedQuery → List ℕ → List Group → List Row → Type 0
+abbrev pub GivesGroupsOfSet : PlannedQuery → List ℕ → List Group → List Record → Type 0
 GivesGroupsOfSet plan set groups rows =
     SameBag (map group_summary_in groups)
     (group_summaries set (aggregate_functions plan.fields plan.query) (kept_records plan.fields plan.query rows))
 
 -- the members of a key under a set of columns are those of all keys of the grouping columns that have its values, joined
-abbrev pub HasMembersOfFiner : PlannedQuery → List ℕ → Key → List Row → Type 0
+abbrev pub HasMembersOfFiner : PlannedQuery → List ℕ → Key → List Record → Type 0
 HasMembersOfFiner plan set key rows = SameBag (finer_members (grouping_places plan.fields plan.query) set key rows) (members set key rows)
 
 -- ---- what a partial result gives

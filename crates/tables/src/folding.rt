@@ -1,7 +1,7 @@
 //! Reading the lines of a piece.
 ghost use Rattle.std.specs.Prelude.{◌≡◌, ◌≤◌, [], All, List, IfOk, length};
 ghost use Rattle.semantics.specs.Lines.{lines};
-ghost use Rattle.semantics.specs.Groups.{Row};
+ghost use Rattle.semantics.specs.Groups as groups;
 ghost use Rattle.tables.specs.Inside.Folding.{HasRead, HasRoomUnder, IsTableOfKept};
 ghost use Rattle.tables.specs.Folding.{refused_lines_of};
 
@@ -30,7 +30,7 @@ pub(crate) struct Folding {
 impl Folding {
     ghost use Rattle.std.specs.Prelude.{◌≡◌, [], ◌∷◌, ◌++◌, ℕ, List, OnOk};
     ghost use Rattle.semantics.specs.Records.{Fits};
-    ghost use Rattle.semantics.specs.Groups.{Row};
+    ghost use Rattle.semantics.specs.Groups as groups;
     ghost use Rattle.lines.specs.Checked.{line_bytes};
     ghost use Rattle.tables.specs.Inside.Folding.{HasRead, IsTableOfKept, ReadsOneMoreUnder, TakesRecordUnder};
 
@@ -58,7 +58,7 @@ impl Folding {
         line: Line<'_>,
     ) -> Result<(), AllocError>
         requires { ReadsOneMoreUnder plan.now self.old }
-        ensures { OnOk result ((before : List Row) (seen : List (List ℕ))
+        ensures { OnOk result ((before : List groups.Record) (seen : List (List ℕ))
             → HasRead plan.now before self.old seen
             → HasRead plan.now before self.new (seen ++ line_bytes line.entry ∷ [])) }
     {
@@ -81,7 +81,7 @@ impl Folding {
     fn take(&mut self, plan: &Plan, taken: &Record) -> Result<(), AllocError>
         requires fits { Fits plan.now.fields taken.now }
         requires room { TakesRecordUnder plan.now self.old }
-        ensures table { OnOk result ((rows : List Row) → IsTableOfKept plan.now self.old.table rows
+        ensures table { OnOk result ((rows : List groups.Record) → IsTableOfKept plan.now self.old.table rows
             → IsTableOfKept plan.now self.new.table (rows ++ taken.now ∷ [])) }
         ensures lines { self.new.lines ≡ self.old.lines }
         ensures refused { self.new.refused ≡ self.old.refused }
@@ -132,7 +132,7 @@ pub(crate) fn read_onto(
     piece: &[u8],
 ) -> Result<Folding, AllocError>
     requires { HasRoomUnder plan.now table (length (lines piece.now)) }
-    ensures read { IfOk result (λ folding. (before : List Row) → IsTableOfKept plan.now table before
+    ensures read { IfOk result (λ folding. (before : List groups.Record) → IsTableOfKept plan.now table before
         → HasRead plan.now before folding (lines piece.now)) }
     ensures lines { IfOk result (λ folding. folding.lines ≡ length (lines piece.now)) }
     ensures refused { IfOk result (λ folding.

@@ -3,8 +3,8 @@ ghost use Rattle.std.specs.Prelude.{◌≡◌, ◌+◌, ◌<◌, ◌^◌, ◌++�
 ghost use Rattle.lines.specs.Pieces.{AreWholeLines};
 ghost use Rattle.lines.specs.declared.pieces.Piece.{Piece};
 ghost use Rattle.pool.specs.Totals.{sum_below};
-ghost use Rattle.semantics.specs.Found.{query_found};
-ghost use Rattle.semantics.specs.Groups.{Row};
+ghost use Rattle.semantics.specs.ResultRows.{rows_before_having};
+ghost use Rattle.semantics.specs.Groups.{Record};
 ghost use Rattle.semantics.specs.Parts.{contents_over};
 ghost use Rattle.query_plan.specs.Planned.{PlannedQuery};
 ghost use Rattle.group_tables.specs.Bags.{SameBag};
@@ -57,8 +57,8 @@ pub fn one_piece_law()
 /// A law: in the same records in any other order a query finds the same: each row of its groups as often. So the rows that
 /// a report shows are one list, whatever the order of the records, by `arranged_law` of `report_rows`.
 pub fn records_law()
-    ensures { (plan : PlannedQuery) (rows others : List Row) → SameBag rows others → SameBag
-        (query_found plan.fields plan.query rows) (query_found plan.fields plan.query others) }
+    ensures { (plan : PlannedQuery) (rows others : List Record) → SameBag rows others → SameBag
+        (rows_before_having plan.fields plan.query rows) (rows_before_having plan.fields plan.query others) }
 {
     group_tables::records_law();
 }
@@ -66,7 +66,7 @@ pub fn records_law()
 /// A law: where groups are those that a query finds in a list of records, each record that WHERE keeps is a member of
 /// exactly one row of each grouping set.
 pub fn members_law()
-    ensures { (plan : PlannedQuery) (groups : GroupsState) (rows : List Row)
+    ensures { (plan : PlannedQuery) (groups : GroupsState) (rows : List Record)
         → GivesGroups plan groups rows → HasEachRecordOnce plan groups.found rows }
 {
     group_tables::members_law();

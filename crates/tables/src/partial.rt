@@ -69,7 +69,7 @@ impl Model for Partial {
     ghost use Rattle.query_resolve.specs.contracts.function.FilteredFunction as filtered_function;
     ghost use Rattle.query_resolve.specs.Resolution.{contents};
     ghost use Rattle.group_tables.specs.Table.{coded_contents};
-    ghost use Rattle.semantics.specs.Order.{in_order};
+    ghost use Rattle.semantics.specs.Order.{sorted_by};
     ghost use Rattle.tables.specs.Notes.{note_order, notes_in};
     ghost use Rattle.tables.specs.States.{PartialState};
 
@@ -85,14 +85,14 @@ impl Model for Partial {
       table = p.table;
       lines = p.lines;
       refused = p.refused;
-      notes = in_order note_order (notes_in p.notes);
+      notes = sorted_by note_order (notes_in p.notes);
     } };
 }
 
 impl Partial {
     ghost use Rattle.std.specs.Prelude.{[], ◌∷◌, ◌+◌, ◌↔◌, ℕ, List, IfOk, OnOk, IsTrue};
     ghost use Rattle.semantics.specs.Lines.{lines};
-    ghost use Rattle.semantics.specs.Groups.{Key, Row};
+    ghost use Rattle.semantics.specs.Groups.{Key, Record};
     ghost use Rattle.tables.specs.Partials.{DiffersInNotes, HasOwnIndexes, HaveOneShape, IsPartialOf, StandsFor, StandsForInput, as_one, both, concatenation, none, of_piece};
     ghost use Rattle.tables.specs.Planned.{AreGroupingColumns, GivesGroupsOfSet, HasMembersOfFiner, IsFinishOf};
     ghost use Rattle.values.specs.GroupStates.{entry_of};
@@ -582,7 +582,7 @@ impl Partial {
             → StandsFor plan.now self.now pieces
             → GivesGroupsOfSet plan.now set.now groups.items (records_of plan.now.fields pieces)) }
         // The members of a key are those of all keys of the grouping columns that have its values, joined.
-        ensures members { OnOk result ((rows : List Row) (key : Key)
+        ensures members { OnOk result ((rows : List Record) (key : Key)
             → HasMembersOfFiner plan.now set.now key rows) }
     {
         let table = self.table.roll(plan.grouping(), set, plan.set_functions())?;

@@ -1,6 +1,6 @@
 //! The groups of all grouping sets, each beside the index of its set.
 ghost use Rattle.std.specs.Prelude.{◌≡◌, ◌++◌, ℕ, IfOk, OnOk, List, map};
-ghost use Rattle.semantics.specs.Groups.{Row};
+ghost use Rattle.semantics.specs.Groups.{Record};
 ghost use Rattle.group_tables.specs.GroupSummaries.{group_summary_in};
 ghost use Rattle.group_tables.specs.Bags.{SameBag};
 ghost use Rattle.group_tables.specs.Found.{row_of, rows_from};
@@ -9,7 +9,7 @@ ghost use Rattle.query_resolve.specs.Functions.{indexed_functions};
 ghost use Rattle.tables.specs.Inside.Folding.{IsTableOfKept};
 ghost use Rattle.tables.specs.Planned.{AreFittingUnder};
 ghost use Rattle.tables.specs.Sound.{IsTypedTableUnder};
-ghost use Rattle.semantics.specs.Found.{query_found};
+ghost use Rattle.semantics.specs.ResultRows.{rows_before_having};
 
 use crate::rolling::groups_of_sets;
 use group_tables::{Executor, Group, Table};
@@ -26,8 +26,8 @@ pub(crate) fn rows_of<E: Executor>(
 ) -> Result<Vec<(usize, Group)>, AllocError>
     requires ready { E.ready executor.now }
     requires few { HasFewRecords (indexed_functions plan.now.fields plan.now.query) finest }
-    ensures rows { IfOk result (λ rows. (records : List Row) → IsTableOfKept plan.now finest records
-        → SameBag (map row_of rows.items) (query_found plan.now.fields plan.now.query records)) }
+    ensures rows { IfOk result (λ rows. (records : List Record) → IsTableOfKept plan.now finest records
+        → SameBag (map row_of rows.items) (rows_before_having plan.now.fields plan.now.query records)) }
     ensures fit { IfOk result (λ rows. IsTypedTableUnder plan.now finest
         → AreFittingUnder plan.now (map row_of rows.items)) }
 {

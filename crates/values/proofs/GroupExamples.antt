@@ -2,14 +2,14 @@
 use Rattle.std.proofs.Common.{◌≡◌, pos, negsuc, true, false, List, [], ◌∷◌, Some, None, refl}
 use Rattle.std.specs.Prelude.{codes}
 use Rattle.semantics.specs.Aggregates.{AggregateFunction}
-use Rattle.semantics.specs.Groups.{Row, value_at}
+use Rattle.semantics.specs.Groups.{Record, value_at}
 use Rattle.semantics.specs.Values.{boolean, whole, text, null}
 use Rattle.semantics.specs.declared.function.ColumnFunction.{ColumnFunction}
 use Rattle.semantics.specs.declared.function.ColumnFunction.TheVariants as function
 use Rattle.semantics.specs.GroupStates.{rows, counted, summed, extreme, collected, entries_over}
 
 -- Some sales: a shop, an amount, and whether a member bought.
-abbrev sales : List Row
+abbrev sales : List Record
 sales =
     (text (codes "Quay") ∷ whole (pos 7) ∷ boolean true ∷ [])
     ∷ (null ∷ whole (pos 1) ∷ null ∷ [])
@@ -59,7 +59,7 @@ no_groups : entries_over (0 ∷ []) (over_all (function.Min 0) ∷ []) [] ≡ []
 no_groups = refl
 
 -- A sum of more than 64 bits stays exact.
-abbrev largest : Row
+abbrev largest : Record
 largest = whole (pos 9223372036854775807) ∷ []
 
 large : entries_over [] (over_all (function.Sum 0) ∷ []) (largest ∷ largest ∷ largest ∷ []) ≡ record { key = []; members = 3; states = summed (pos 27670116110564327421) 3 ∷ [] } ∷ []

@@ -7,8 +7,8 @@ use Rattle.semantics.specs.Values.{Datum, whole, null, value_order}
 use Rattle.values.specs.Datum.{datum_of}
 use Rattle.semantics.specs.declared.function.ColumnFunction.{ColumnFunction}
 use Rattle.semantics.specs.declared.function.ColumnFunction.TheVariants as function
-use Rattle.semantics.specs.Groups.{Row, value_at}
-use Rattle.semantics.specs.Aggregates.{present, numbers, Summary, plain, ratio, total}
+use Rattle.semantics.specs.Groups.{Record, value_at}
+use Rattle.semantics.specs.Aggregates.{non_null, numbers, CellValue, plain, ratio, total}
 use Rattle.group_tables.specs.Values.{set_of, falling_order, first_by}
 use Rattle.group_tables.specs.declared.accumulator.Accumulator.{Accumulator}
 use Rattle.group_tables.specs.declared.accumulator.Accumulator.TheVariants as accumulator
@@ -32,10 +32,10 @@ argument_place (function.Avg place) = Some place
 -- what is kept after one more value
 abbrev pub with_value : AccumulatorState → Datum → AccumulatorState
 with_value nothing d = nothing
-with_value (counted n) d = counted (n + length (present (d ∷ [])))
+with_value (counted n) d = counted (n + length (non_null (d ∷ [])))
 with_value (summed s n) d = summed (s +ℤ total (numbers (d ∷ []))) (n + length (numbers (d ∷ [])))
 with_value (averaged s n) d = averaged (s +ℤ total (numbers (d ∷ []))) (n + length (numbers (d ∷ [])))
-with_value (collected s) d = collected (set.union s (set_of (present (d ∷ []))))
+with_value (collected s) d = collected (set.union s (set_of (non_null (d ∷ []))))
 with_value (lowest k) d = lowest (first_by value_order k d)
 with_value (highest k) d = highest (first_by falling_order k d)
 
@@ -45,7 +45,7 @@ with_count (counted n) = counted (n + 1)
 with_count k = k
 
 -- what is kept for a set function after one more record that it takes
-abbrev pub with_record : ColumnFunction → AccumulatorState → Row → AccumulatorState
+abbrev pub with_record : ColumnFunction → AccumulatorState → Record → AccumulatorState
 with_record f k row = option_map_or (λ place. with_value k (value_at place row)) (argument_place f) (with_count k)
 
 -- whether a record is kept by the filter with this index, by the marks of all filters: true where the filter keeps it; without FILTER each is
@@ -54,11 +54,11 @@ is_marked marks None = true
 is_marked marks (Some index) = slice_index_or marks index false
 
 -- what is kept for a set function after one more record, which its FILTER keeps or not
-abbrev pub with_member : Bool → ColumnFunction → AccumulatorState → Row → AccumulatorState
+abbrev pub with_member : Bool → ColumnFunction → AccumulatorState → Record → AccumulatorState
 with_member kept f k row = if kept then with_record f k row else k
 
 -- the value of the function over a group of so many records
-abbrev pub summary : ℕ → AccumulatorState → Summary
+abbrev pub summary : ℕ → AccumulatorState → CellValue
 summary lines nothing = plain (whole (pos lines))
 summary lines (counted n) = plain (whole (pos n))
 summary lines (summed s zero) = plain null

@@ -1,7 +1,7 @@
 -- What is shown of the groups of entries.
 use Rattle.group_tables.specs.declared.packed_key.PackedKey.{PackedKey}
 use Rattle.std.specs.Prelude.{List, ◌++◌, map}
-use Rattle.semantics.specs.Found.{GroupSummary}
+use Rattle.semantics.specs.ResultRows.{GroupSummary}
 use Rattle.group_tables.specs.declared.group.Group.{Group}
 use Rattle.group_tables.specs.GroupSummaries.{group_summary_in}
 use Rattle.group_tables.specs.Group.{GroupState}

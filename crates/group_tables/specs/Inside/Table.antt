@@ -4,7 +4,7 @@ use Rattle.std.specs.Prelude.{⊤, ◌≡◌, ◌+◌, ◌<◌, ◌≤◌, ◌^�
 use Rattle.std.specs.FinMap as fin
 use Rattle.values.specs.Datum.{data_of}
 use Rattle.query_resolve.specs.declared.function.FilteredFunction.{FilteredFunction}
-use Rattle.semantics.specs.Groups.{Row, Key, same_key, members}
+use Rattle.semantics.specs.Groups.{Record, Key, same_key, members}
 use Rattle.group_tables.specs.Rows.{IsNarrowRow}
 use Rattle.group_tables.specs.Group.{GroupState, joint_group}
 use Rattle.group_tables.specs.Inside.Group.{no_group, with_row}
@@ -15,11 +15,11 @@ use Rattle.group_tables.specs.Table.{Contents, joint_option, IsFitting}
 -- ---- steps
 
 -- what is kept of a group after one more record, of which the marks say which filters keep it; of a group that is new, after its first one
-abbrev pub group_with_record : List FilteredFunction → List Bool → Option GroupState → Row → GroupState
+abbrev pub group_with_record : List FilteredFunction → List Bool → Option GroupState → Record → GroupState
 group_with_record functions marks old row = with_row functions marks (unwrap_or old (no_group functions)) row
 
 -- at the key k the table has the record added, where it is the record's key, and else what it had
-abbrev pub IsAdded : List FilteredFunction → List Bool → Contents → Contents → Key → Row → Key → Type 0
+abbrev pub IsAdded : List FilteredFunction → List Bool → Contents → Contents → Key → Record → Key → Type 0
 IsAdded functions marks old new key row k = fin.get new k ≡ cond (same_key k key) (Some (group_with_record functions marks (fin.get old k) row)) (fin.get old k)
 
 -- at the key k the table has one more part of the group of a key

@@ -4,7 +4,7 @@ use Rattle.part_lines.specs.Reading.{Stream}
 use Rattle.query_plan.specs.Planned.{PlannedQuery}
 use Rattle.semantics.specs.Columns.{Field}
 use Rattle.semantics.specs.Lines.{lines}
-use Rattle.semantics.specs.Syntax.{TreeForm}
+use Rattle.semantics.specs.Syntax.{Query}
 use Rattle.semantics.specs.Parts.{ContentsForm}
 use Rattle.tables.specs.States.{PartialState}
 use Rattle.parts.specs.declared.fault.PartsRefusal.{PartsRefusal}
@@ -15,7 +15,7 @@ use Rattle.parts.specs.Joining.{StandsForAll}
 
 -- What the parts are read as that are numbered from `part` on and stand behind parts of so many lines, if
 -- there may be as many of them as there are lines.
-abbrev pub ArePartsFrom : List Field → TreeForm → (part before : ℕ) → Stream → Result (List ContentsForm) PartedFault → Type 0
+abbrev pub ArePartsFrom : List Field → Query → (part before : ℕ) → Stream → Result (List ContentsForm) PartedFault → Type 0
 ArePartsFrom fields q part before s answer = (most : ℕ) → length s.left ≤ most → parts_from fields q most part before s ≡ answer
 
 -- Behind parts whose result is this one, a call joins those that are numbered from `part` on: it answers

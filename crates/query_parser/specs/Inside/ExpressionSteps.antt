@@ -6,7 +6,7 @@ use Rattle.semantics.specs.declared.token.Token.TheVariants as tokens
 use Rattle.semantics.specs.declared.token.Word.TheVariants as w
 use Rattle.semantics.specs.declared.token.Sign.TheVariants as s
 use Rattle.query_lexer.specs.Options.{choose}
-use Rattle.semantics.specs.Syntax.{ExpressionForm, FunctionForm, PredicateForm, over_all, over_filtered}
+use Rattle.semantics.specs.Syntax.{Expression, SetFunction, Predicate, over_all, over_filtered}
 use Rattle.semantics.specs.Leaves.{Limits}
 use Rattle.values.specs.Results.{◌>>=◌}
 use Rattle.query_parser.specs.Inside.Fronts.{is_word, is_sign, after}
@@ -17,27 +17,27 @@ use Rattle.query_parser.specs.Inside.LeafSteps.{aggregate_at, arguments_at}
 pub record Inside : Type 0 where
   pub limits : Limits
   pub has_level : Bool
-  pub read : Reader PredicateForm
+  pub read : Reader Predicate
 
 -- The bracketed predicate behind FILTER. The levels are counted at the bracket.
-unfoldable pub filter_at : Inside → Reader PredicateForm
+unfoldable pub filter_at : Inside → Reader Predicate
 filter_at inside ts = found_or_unexpected (after (is_sign s.Open)) ts >>= λ a. cond inside.has_level
     (found_or_unexpected (after (is_word w.Where)) a >>= λ b. inside.read b >>= λ p. found_or_unexpected (after (is_sign s.Close)) p.1 >>= λ rest. Ok (p.0, rest))
     (over a)
 
 -- A set function, and the FILTER behind it, where there is one.
-unfoldable pub function_at : Inside → Reader FunctionForm
+unfoldable pub function_at : Inside → Reader SetFunction
 function_at inside ts = aggregate_at ts >>= λ f. choose (after (is_word w.Filter) f.1)
     (Ok (over_all f.0, f.1))
     (λ a. filter_at inside a >>= λ p. Ok (over_filtered f.0 p.0, p.1))
 
 -- An expression.
-unfoldable pub expression_at : Inside → Reader ExpressionForm
+unfoldable pub expression_at : Inside → Reader Expression
 expression_at inside ts = choose (name_at ts)
     (choose (after (is_word w.Grouping) ts)
-    (function_at inside ts >>= λ f. Ok (ExpressionForm.function f.0, f.1))
-    (λ a. arguments_at inside.limits.arguments a >>= λ ns. Ok (ExpressionForm.grouping ns.0, ns.1)))
-    (λ n. Ok (ExpressionForm.name n.0, n.1))
+    (function_at inside ts >>= λ f. Ok (Expression.function f.0, f.1))
+    (λ a. arguments_at inside.limits.arguments a >>= λ ns. Ok (Expression.grouping ns.0, ns.1)))
+    (λ n. Ok (Expression.name n.0, n.1))
 
 -- Whether an expression begins in front of tokens: a name, GROUPING, or the word of a set function.
 unfoldable pub begins_expression : List Token → Bool

@@ -6,7 +6,7 @@ use Rattle.semantics.specs.declared.token.Token.TheVariants as tokens
 use Rattle.semantics.specs.declared.token.Word.TheVariants as w
 use Rattle.semantics.specs.declared.token.Sign.TheVariants as s
 use Rattle.query_lexer.specs.Options.{choose}
-use Rattle.semantics.specs.Syntax.{ElementForm, set, rollup, cube, sets, element_forms}
+use Rattle.semantics.specs.Syntax.{GroupingElement, set, rollup, cube, sets, element_forms}
 use Rattle.values.specs.Results.{◌>>=◌}
 use Rattle.query_parser.specs.Inside.PredicateSteps.{any_front}
 use Rattle.query_parser.specs.Inside.Fronts.{is_word, is_sign, after}
@@ -44,7 +44,7 @@ unfoldable pub set_at : Reader (List (List ℕ))
 set_at ts = choose (nothing_at ts) (unit_at ts) (λ rest. Ok ([], rest))
 
 -- An element of GROUP BY, where nested reads what stands behind GROUPING.
-unfoldable pub element_at : Reader ElementForm → Reader ElementForm
+unfoldable pub element_at : Reader GroupingElement → Reader GroupingElement
 element_at nested ts = choose (after (is_word w.Rollup) ts)
     (choose (after (is_word w.Cube) ts)
     (choose (after (is_word w.Grouping) ts)
@@ -54,10 +54,10 @@ element_at nested ts = choose (after (is_word w.Rollup) ts)
     (λ a. units_at a >>= λ us. Ok (rollup us.0, us.1))
 
 -- What stands behind GROUPING: SETS and its bracketed elements, with at most n levels of GROUPING SETS in all.
-unfoldable pub sets_at : ℕ → Reader ElementForm
+unfoldable pub sets_at : ℕ → Reader GroupingElement
 sets_at zero ts = over ts
 sets_at (suc n) ts = found_or_unexpected (after (is_word w.Sets)) ts >>= λ a. enclosed_at any_front (element_at (sets_at n)) a >>= λ gs. Ok (sets (element_forms gs.0), gs.1)
 
 -- An element of GROUP BY, with at most n levels of GROUPING SETS in one another.
-abbrev pub group_at : ℕ → Reader ElementForm
+abbrev pub group_at : ℕ → Reader GroupingElement
 group_at n = element_at (sets_at n)

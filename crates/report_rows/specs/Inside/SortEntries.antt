@@ -13,9 +13,9 @@ use Rattle.std.specs.declared.result.Result.{Result}
 use Rattle.semantics.specs.Aggregates.{same_value}
 use Rattle.semantics.specs.Values.{Datum, null, value_order}
 use Rattle.semantics.specs.Columns.{Field}
-use Rattle.semantics.specs.Syntax.{KeyForm, TreeForm}
+use Rattle.semantics.specs.Syntax.{SortKey, Query}
 use Rattle.semantics.specs.Sets.{sets_of}
-use Rattle.semantics.specs.Found.{Found, set_of}
+use Rattle.semantics.specs.ResultRows.{ResultRow, set_of}
 use Rattle.semantics.specs.Rows.{cell_value}
 use Rattle.query_ast.specs.Syntax.{key_form}
 use Rattle.values.specs.Datum.{data_of, datum_of}
@@ -26,7 +26,7 @@ use Rattle.group_tables.specs.Cells.{summary_of}
 use Rattle.group_tables.specs.Found.{row_of}
 use Rattle.report_rows.specs.declared.coded_key.CodedKey.{CodedKey}
 use Rattle.report_rows.specs.declared.sort_entry.SortEntry.{SortEntry}
-use Rattle.semantics.specs.Order.{before, grouping_values, under_key, under_keys}
+use Rattle.semantics.specs.Order.{row_order, grouping_values, compare_by_key, compare_by_keys}
 use Rattle.report_rows.specs.declared.source.ValueSource.{ValueSource}
 use Rattle.report_rows.specs.declared.source.ValueSource.TheVariants.{KeyAt, CellAt, Always}
 use Rattle.report_rows.specs.Sources.{shown_at}
@@ -39,47 +39,47 @@ abbrev pub value_at_source : Group → ValueSource → Datum
 value_at_source group source = cell_value (shown_at (data_of group.key.items) (map summary_of group.cells.items) source)
 
 -- the same, apart from where the group lies in memory
-abbrev pub value_there : Found → ValueSource → Datum
+abbrev pub value_there : ResultRow → ValueSource → Datum
 value_there row source = cell_value (shown_at row.1.key row.1.cells source)
 
 -- ---- keys beside where rows have their values
 
 -- a key of ORDER BY, and where the rows of each grouping set have its value, apart from where they lie in memory
 abbrev pub CodedForm : Type 0
-CodedForm = KeyForm × List ValueSource
+CodedForm = SortKey × List ValueSource
 
 abbrev pub coded_form : CodedKey → CodedForm
 coded_form coded = (key_form coded.key.now, coded.sources.items)
 
 -- the value that a row has where its grouping set has that of the key, and NULL where the set has nothing
-abbrev pub coded_value : Found → CodedForm → Datum
+abbrev pub coded_value : ResultRow → CodedForm → Datum
 coded_value row c = slice_index_or (map (value_there row) c.1) row.0 null
 
 -- how two rows stand to each other by the values that they have there: as under the first key that tells them apart
-abbrev pub under_coded : List CodedForm → Found → Found → Ordering
+abbrev pub under_coded : List CodedForm → ResultRow → ResultRow → Ordering
 under_coded [] x y = Equal
-under_coded (c ∷ cs) x y = ordering_then (under_key c.0 (coded_value x c) (coded_value y c)) (under_coded cs x y)
+under_coded (c ∷ cs) x y = ordering_then (compare_by_key c.0 (coded_value x c) (coded_value y c)) (under_coded cs x y)
 
 -- ---- the code of a row
 
 -- the code of the value of a key for a row
-abbrev pub coded_code : Found → CodedForm → List ℕ
+abbrev pub coded_code : ResultRow → CodedForm → List ℕ
 coded_code row c = key_code c.0 (coded_value row c)
 
 -- those of keys, one after the other
-abbrev pub keys_code : Found → List CodedForm → List ℕ
+abbrev pub keys_code : ResultRow → List CodedForm → List ℕ
 keys_code row cs = flat_map (coded_code row) cs
 
 -- the code by which a row is put in order: those of its values for keys, then that of the index of its grouping set, and then those of the values of its key
-abbrev pub row_code : List CodedForm → Found → List ℕ
+abbrev pub row_code : List CodedForm → ResultRow → List ℕ
 row_code cs row = keys_code row cs ++ (index_code row.0 ++ values_code row.1.key)
 
 -- the values of a row for keys have codes of their own
-abbrev pub AreCodable : Found → List CodedForm → Type 0
+abbrev pub AreCodable : ResultRow → List CodedForm → Type 0
 AreCodable row cs = AllByRecursion (λ c. IsCodable (coded_value row c)) cs
 
 -- so have all that the code of a row is of
-pub record IsCodableRow (cs : List CodedForm) (row : Found) : Type 0 where
+pub record IsCodableRow (cs : List CodedForm) (row : ResultRow) : Type 0 where
   pub values : AreCodable row cs
   pub index : row.0 < 2 ^ 64
   pub key : AllByRecursion IsCodable row.1.key
@@ -127,8 +127,8 @@ abbrev pub with_key : List CodedForm → CodedForm → List CodedForm
 with_key cs c = if is_repeated cs c.1 then cs else cs ++ c ∷ []
 
 -- the keys tell the rows of grouping sets apart as these keys of ORDER BY do
-abbrev pub AreTelling : List CodedForm → List KeyForm → List Field → TreeForm → Type 0
-AreTelling cs ks fields t = (x y : Found) → x.0 < length (sets_of fields t) → y.0 < length (sets_of fields t) → under_coded cs x y ≡ under_keys fields t ks x y
+abbrev pub AreTelling : List CodedForm → List SortKey → List Field → Query → Type 0
+AreTelling cs ks fields t = (x y : ResultRow) → x.0 < length (sets_of fields t) → y.0 < length (sets_of fields t) → under_coded cs x y ≡ compare_by_keys fields t ks x y
 
 -- ---- keys that say what the group's key says
 
@@ -150,25 +150,25 @@ abbrev pub are_default_behind : ℕ → List CodedForm → Bool
 are_default_behind count cs = are_default_from 0 (drop count cs)
 
 -- the index of a row is that of a grouping set, and its key has a value for each column of the set
-abbrev pub HasKeyOf : List Field → TreeForm → Found → Type 0
+abbrev pub HasKeyOf : List Field → Query → ResultRow → Type 0
 HasKeyOf fields t row = (row.0 < length (sets_of fields t)) × (length row.1.key ≡ length (set_of fields t row))
 
 -- how two rows stand to each other under keys, then by the index of their grouping set, and in one set by what they show for the grouping columns
-abbrev pub before_under : List CodedForm → List Field → TreeForm → Found → Found → Ordering
+abbrev pub before_under : List CodedForm → List Field → Query → ResultRow → ResultRow → Ordering
 before_under cs fields t x y = ordering_then (under_coded cs x y) (ordering_then (nat_cmp x.0 y.0) (slice_cmp value_order (grouping_values fields t x) (grouping_values fields t y)))
 
 -- the keys are enough: under them rows stand to each other as under all of ORDER BY
-abbrev pub AreEnough : List CodedForm → List Field → TreeForm → Type 0
-AreEnough cs fields t = (x y : Found) → HasKeyOf fields t x → HasKeyOf fields t y → before_under cs fields t x y ≡ before fields t x y
+abbrev pub AreEnough : List CodedForm → List Field → Query → Type 0
+AreEnough cs fields t = (x y : ResultRow) → HasKeyOf fields t x → HasKeyOf fields t y → before_under cs fields t x y ≡ row_order fields t x y
 
 -- ---- entries
 
 -- an entry apart from where it lies in memory: the code of a row in parts, and the row
 abbrev pub EntryForm : Type 0
-EntryForm = SortParts × Found
+EntryForm = SortParts × ResultRow
 
 -- the entry of a row, where these keys stand in its code
-abbrev pub entry_at : List CodedForm → Found → EntryForm
+abbrev pub entry_at : List CodedForm → ResultRow → EntryForm
 entry_at cs row = (parts_of (row_code cs row), row)
 
 -- how two entries stand to each other: as their codes do
@@ -180,10 +180,10 @@ abbrev pub entry_form : SortEntry → EntryForm
 entry_form entry = (key_parts entry.key, row_of entry.found.now)
 
 -- entries are those of rows, in whatever order
-pub record AreEntriesOf (cs : List CodedForm) (rows : List Found) (made : List SortEntry) : Type 0 where
+pub record AreEntriesOf (cs : List CodedForm) (rows : List ResultRow) (made : List SortEntry) : Type 0 where
   pub codable : AllByRecursion (IsCodableRow cs) rows
   pub entries : IsPermutation (map (entry_at cs) rows) (map entry_form made)
 
 -- each list that was made has those of its part of the rows
-abbrev pub AreEntriesOfParts : List CodedForm → ℕ → List Found → List (Result (Vec SortEntry) AllocError) → Type 0
+abbrev pub AreEntriesOfParts : List CodedForm → ℕ → List ResultRow → List (Result (Vec SortEntry) AllocError) → Type 0
 AreEntriesOfParts cs size rows parts = AreOfParts (AreEntriesOf cs) size rows parts

@@ -10,12 +10,12 @@ use Rattle.group_tables.specs.declared.group.Group.{Group}
 use Rattle.group_tables.specs.Table.{Contents, IsCounted, IsTableUnder}
 use Rattle.group_tables.specs.Typed.{AreOfTypes, HaveColumns, IsTypedTable}
 use Rattle.semantics.specs.Columns.{Field}
-use Rattle.semantics.specs.Groups.{Row}
+use Rattle.semantics.specs.Groups.{Record}
 use Rattle.tables.specs.Inside.Sets.{AreGroupsOfSet}
 
 -- A table is that of some records, where the filters keep this; or its groups have the types of some columns; or they have at most so many records together.
 pub data Property : Type 0 where
-  of_records : List (Row → Bool) → List Row → Property
+  of_records : List (Record → Bool) → List Record → Property
   of_types : List Field → Property
   of_at_most : ℕ → Property
 

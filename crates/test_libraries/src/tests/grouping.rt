@@ -2,9 +2,9 @@
 ghost use Rattle.std.specs.Prelude.{◌≡◌, ◌<◌, ◌^◌, ◌∷◌, [], IfOk, length, List, map};
 ghost use Rattle.values.specs.Datum.{data_of, datum_of};
 ghost use Rattle.group_tables.specs.Functions.{aggregate_of};
-ghost use Rattle.semantics.specs.Groups.{Row, value_at};
+ghost use Rattle.semantics.specs.Groups.{Record, value_at};
 ghost use Rattle.group_tables.specs.Rows.{IsNarrow, IsNarrowRow};
-ghost use Rattle.semantics.specs.Aggregates.{is_present};
+ghost use Rattle.semantics.specs.Aggregates.{is_non_null};
 ghost use Rattle.group_tables.specs.Table.{HasFewRecords, IsTableOf};
 
 use group_tables::{Cell, Group, HashSeed, Serial, Table};
@@ -43,7 +43,7 @@ fn row_of(alloc: Global, fields: &[Field]) -> Result<Vec<Value>, AllocError>
 
 /// Whether the one filter keeps a record: where its second column is not NULL.
 fn keeps(row: &[Value]) -> bool
-    ensures { result ≡ is_present (value_at 1 (data_of row.now)) }
+    ensures { result ≡ is_non_null (value_at 1 (data_of row.now)) }
 {
     match row.get(1) {
         Some(Value::Bool(_) | Value::Int(_) | Value::Text(_)) => true,
@@ -59,8 +59,8 @@ fn table_of(
     records: &[&[Field]],
 ) -> Result<Table, AllocError>
     requires { length records.now < 2 ^ 62 }
-    ensures { IfOk result (λ table. (rows : List Row) × (IsTableOf set.now
-        (map (aggregate_of ((λ row. is_present (value_at 1 row)) ∷ [])) functions.now) table rows
+    ensures { IfOk result (λ table. (rows : List Record) × (IsTableOf set.now
+        (map (aggregate_of ((λ row. is_non_null (value_at 1 row)) ∷ [])) functions.now) table rows
         × (length rows < 2 ^ 62))) }
 {
     let mut table = Table::new(alloc, HashSeed::Fixed, 1, set, functions)?;

@@ -2,7 +2,7 @@ use Rattle.std.proofs.lemmas.Grind.{common_steps}
 use Rattle.std.proofs.Common.{rules, arith, ◌≤◌, ◌-◌, length, subst}
 use Rattle.semantics.specs.Prefixes.{IsUnexpected}
 use Rattle.semantics.specs.Grammar.{DerivesWithin}
-use Rattle.semantics.specs.Leaves.{standard}
+use Rattle.semantics.specs.Leaves.{language_limits}
 use Rattle.query_ast.specs.Syntax.{tree_form}
 use Rattle.query.proofs.Places.{room_of, unexpected_at, too_much}
 use Rattle.query.proofs.Refusals.{told_no_token, told_unexpected, told_too_much, told_query}
@@ -24,7 +24,7 @@ returns-in-Err-OverLimit-clause-told c =
 
 pub returns-in-Ok-read_query-clause-told : goal.returns-in-Ok-read_query-clause-told
 returns-in-Ok-read_query-clause-told c =
-    told_query c.args.text.now c.in-Ok.tokens.starts.items c.in-Ok.tokens.all.items (tree_form c.in-Ok-read_query.tree.value) (search (rules, c.if-text-gt-MAX_BYTES.false)) c.in-Ok.ensures.spelled (subst (λ ks. DerivesWithin standard ks (tree_form c.in-Ok-read_query.tree.value)) c.as_slice.ensures.value c.in-Ok-read_query.ensures.derived)
+    told_query c.args.text.now c.in-Ok.tokens.starts.items c.in-Ok.tokens.all.items (tree_form c.in-Ok-read_query.tree.value) (search (rules, c.if-text-gt-MAX_BYTES.false)) c.in-Ok.ensures.spelled (subst (λ ks. DerivesWithin language_limits ks (tree_form c.in-Ok-read_query.tree.value)) c.as_slice.ensures.value c.in-Ok-read_query.ensures.derived)
 
 pub start_of_last-byte-requires : goal.start_of_last-byte-requires
 start_of_last-byte-requires c =

@@ -1,7 +1,7 @@
 use Rattle.std.proofs.Common.{◌+◌, ◌*◌, ◌≤◌, length, map}
 use Rattle.semantics.specs.declared.token.Word.TheVariants.{And, Or}
 use Rattle.query_ast.specs.Syntax.{predicate_form}
-use Rattle.semantics.specs.Leaves.{standard}
+use Rattle.semantics.specs.Leaves.{language_limits}
 use Rattle.query_parser.specs.Inside.Fronts.{is_word}
 use Rattle.query_parser.specs.Inside.Steps.{more}
 use Rattle.query_parser.specs.Inside.PredicateSteps.{negation_at, conjunction_at, any_front, inside_of}
@@ -53,7 +53,7 @@ decreases-predicate l = 16 * l.levels
 abbrev pub invariant-more_negations-loop-behind : goal.invariant-more_negations-loop-behind
 invariant-more_negations-loop-behind l = record {
   shorter : length l.rest ≤ length l.fn.tokens;
-  unread : Unread (is_word And) any_front (negation_at (inside_of standard l.levels)) (map predicate_form l.parts.items) l.rest (more (is_word And) any_front (negation_at (inside_of standard l.levels)) (length l.fn.tokens) l.fn.tokens);
+  unread : Unread (is_word And) any_front (negation_at (inside_of language_limits l.levels)) (map predicate_form l.parts.items) l.rest (more (is_word And) any_front (negation_at (inside_of language_limits l.levels)) (length l.fn.tokens) l.fn.tokens);
 }
 
 abbrev pub decreases-more_negations-loop-behind : goal.decreases-more_negations-loop-behind
@@ -62,7 +62,7 @@ decreases-more_negations-loop-behind l = length l.rest
 abbrev pub invariant-more_conjunctions-loop-behind : goal.invariant-more_conjunctions-loop-behind
 invariant-more_conjunctions-loop-behind l = record {
   shorter : length l.rest ≤ length l.fn.tokens;
-  unread : Unread (is_word Or) any_front (conjunction_at (inside_of standard l.levels)) (map predicate_form l.parts.items) l.rest (more (is_word Or) any_front (conjunction_at (inside_of standard l.levels)) (length l.fn.tokens) l.fn.tokens);
+  unread : Unread (is_word Or) any_front (conjunction_at (inside_of language_limits l.levels)) (map predicate_form l.parts.items) l.rest (more (is_word Or) any_front (conjunction_at (inside_of language_limits l.levels)) (length l.fn.tokens) l.fn.tokens);
 }
 
 abbrev pub decreases-more_conjunctions-loop-behind : goal.decreases-more_conjunctions-loop-behind

@@ -1,7 +1,7 @@
 use Rattle.std.proofs.Common.{◌∙◌, ℕ, List, map, sym, ap}
 use Rattle.std.specs.Global.{Vec}
 use Rattle.values.specs.Schema.{fields_of}
-use Rattle.semantics.specs.Syntax.{ElementForm}
+use Rattle.semantics.specs.Syntax.{GroupingElement}
 use Rattle.query_ast.specs.Syntax.{element_form, units_form}
 use Rattle.semantics.specs.Names.{places_of}
 use Rattle.semantics.specs.Sets.{cube_sets, group_sets, ordered_set, rollup_sets}
@@ -24,7 +24,7 @@ returns-in_ok-rollup-in-Rollup t c =
     ∙ ap (λ (us : List (List ℕ)). in_order (rollup_sets us)) (c.in_ok-units-in-Rollup.ensures ∙ ap (λ (us : List (Vec (List ℕ))). in_order (places (units_form us))) c.deref-in-Rollup.ensures.value)
     ∙ rollup_ordered grouping (places units)
     ∙ ap in_order (sym (rollup_places (fields_of c.args.columns.now) units))
-    ∙ ap (λ (g : ElementForm). in_order (places (group_sets g))) (sym (rollup_form c.in-Rollup.units) ∙ ap element_form (sym c.in-Rollup.is)))
+    ∙ ap (λ (g : GroupingElement). in_order (places (group_sets g))) (sym (rollup_form c.in-Rollup.units) ∙ ap element_form (sym c.in-Rollup.is)))
 
 pub returns-in_ok-cube-in-Cube : goal.returns-in_ok-cube-in-Cube
 returns-in_ok-cube-in-Cube t c =
@@ -39,4 +39,4 @@ returns-in_ok-cube-in-Cube t c =
     ∙ ap (λ (us : List (List ℕ)). in_order (cube_sets us)) (c.in_ok-units-in-Cube.ensures ∙ ap (λ (us : List (Vec (List ℕ))). in_order (places (units_form us))) c.deref-in-Cube.ensures.value)
     ∙ cube_ordered grouping (places units)
     ∙ ap in_order (sym (cube_places (fields_of c.args.columns.now) units))
-    ∙ ap (λ (g : ElementForm). in_order (places (group_sets g))) (sym (cube_form c.in-Cube.units) ∙ ap element_form (sym c.in-Cube.is)))
+    ∙ ap (λ (g : GroupingElement). in_order (places (group_sets g))) (sym (cube_form c.in-Cube.units) ∙ ap element_form (sym c.in-Cube.is)))

@@ -1,6 +1,6 @@
 use Rattle.std.proofs.Common.{◌≡◌, ◌∙◌, ◌*◌, ℕ, Bor, List, IfOk, length, map, take, drop, get_or, ap, sym, subst, arith}
 use Rattle.std.proofs.lemmas.List.{drop-map, length-map, take-map}
-use Rattle.semantics.specs.Aggregates.{Summary}
+use Rattle.semantics.specs.Aggregates.{CellValue}
 use Rattle.group_tables.specs.declared.group.Group.{Group}
 use Rattle.group_tables.specs.Found.{row_of}
 use Rattle.report.specs.Inside.Parts.{IsTextOf}
@@ -24,5 +24,5 @@ returns g c =
     let k = (c.in_ok-texts.ensures.each n d low).1 in
     let part : map cells k.argument.now ≡ take size (drop (n * size) (map cells groups)) =
     ap (map cells) k.argument_is.value ∙ sym (take-map cells size (drop (n * size) groups)) ∙ ap (take size) (sym (drop-map cells (n * size) groups)) in
-    subst (λ (rows : List (List Summary)). IfOk (get_or texts n d) (λ made. made.items ≡ rows_bytes rows)) part k.call)
+    subst (λ (rows : List (List CellValue)). IfOk (get_or texts n d) (λ made. made.items ≡ rows_bytes rows)) part k.call)
     (omega (arith, count, cover))

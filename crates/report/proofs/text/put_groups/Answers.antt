@@ -3,7 +3,7 @@ use Rattle.std.specs.Io.KnownBytes.{Appends}
 use Rattle.std.proofs.KnownBytes.{Appends-trans}
 use Rattle.csv.specs.Writing.{text_written}
 use Rattle.group_tables.specs.declared.group.Group.{Group}
-use Rattle.semantics.specs.Aggregates.{Summary}
+use Rattle.semantics.specs.Aggregates.{CellValue}
 use Rattle.group_tables.specs.Found.{row_of}
 use Rattle.report_rows.specs.Sources.{cells_at}
 use Rattle.report.specs.Inside.Text.{rows_bytes}
@@ -16,7 +16,7 @@ loop-start-preserved c =
     let groups = c.args.groups.now in
     let start = c.loop-start.start in
     let count = c.min.result in
-    let shown : Bor (ℕ × Group) → List Summary = λ r. cells_at c.args.sources.now (row_of r.now) in
+    let shown : Bor (ℕ × Group) → List CellValue = λ r. cells_at c.args.sources.now (row_of r.now) in
     let more : map shown (take (start + count) groups) ≡ map shown (take start groups) ++ map shown (take count (drop start groups)) = map-more shown groups start count in
     let before = text_written (λ v. Some v.items) c.args.writer.now in
     let so_far = text_written (λ v. Some v.items) c.loop-start.writer in

@@ -4,12 +4,12 @@ use Rattle.std.specs.List.{AllByRecursion}
 use Rattle.std.proofs.lemmas.List.{map_push}
 use Rattle.semantics.specs.Sets.{sets_of}
 use Rattle.group_tables.specs.declared.group.Group.{Group}
-use Rattle.semantics.specs.Aggregates.{Summary}
-use Rattle.semantics.specs.Found.{Found}
+use Rattle.semantics.specs.Aggregates.{CellValue}
+use Rattle.semantics.specs.ResultRows.{ResultRow}
 use Rattle.group_tables.specs.Found.{row_of}
-use Rattle.semantics.specs.Order.{rows_in_order}
+use Rattle.semantics.specs.Order.{sorted_rows}
 use Rattle.report_rows.specs.Shown.{cells_of}
-use Rattle.semantics.specs.Rows.{row_shown}
+use Rattle.semantics.specs.Rows.{row_values}
 use Rattle.report_rows.specs.declared.row.ReportRow.{ReportRow}
 use Rattle.report_rows.specs.declared.source.ValueSource.{ValueSource}
 use Rattle.report_rows.specs.Sources.{cells_at}
@@ -25,10 +25,10 @@ loop-group-init c =
     let found = (map row_of c.args.groups.now) in
     let shows = λ (r : Bor (ℕ × Group)). row_of r.now in
     let rest : c.into_iter-group-iterator.result.rest.items ≡ c.in_ok-shown.shown.items = c.into_iter-group-iterator.ensures.into_iter_gives.0 in
-    let left : map shows c.into_iter-group-iterator.result.rest.items ≡ rows_in_order fields t found = ap (map shows) rest ∙ c.in_ok-shown.ensures.shown in
+    let left : map shows c.into_iter-group-iterator.result.rest.items ≡ sorted_rows fields t found = ap (map shows) rest ∙ c.in_ok-shown.ensures.shown in
     record {
-      shown = ap (λ (rows : List ReportRow). map cells_of rows ++ map (row_shown fields t) (map shows c.into_iter-group-iterator.result.rest.items)) c.in_ok-rows.ensures.items ∙ ap (map (row_shown fields t)) left;
-      within = subst (λ (f : List Found). AllByRecursion (λ x. x.0 < length (sets_of fields t)) f) (sym left) (within-having_true fields t found c.requires);
+      shown = ap (λ (rows : List ReportRow). map cells_of rows ++ map (row_values fields t) (map shows c.into_iter-group-iterator.result.rest.items)) c.in_ok-rows.ensures.items ∙ ap (map (row_values fields t)) left;
+      within = subst (λ (f : List ResultRow). AllByRecursion (λ x. x.0 < length (sets_of fields t)) f) (sym left) (within-having_true fields t found c.requires);
     }
 
 pub loop-group-preserved : goal.loop-group-preserved
@@ -39,16 +39,16 @@ loop-group-preserved c =
     let rows = c.loop-group.rows.items in
     let row = c.in_ok-row_for.field-0 in
     let rest = c.next.new.self.rest.items in
-    let later = map (row_shown fields t) (map shows rest) in
+    let later = map (row_values fields t) (map shows rest) in
     let is : c.loop-group.group-iterator.rest.items ≡ c.in-Some.group ∷ rest = c.in-Some.ensures.steps.0 in
     let group = row_of c.in-Some.group.now in
     let within = subst (λ (gs : List (Bor (ℕ × Group))). AllByRecursion (λ x. x.0 < length (sets_of fields t)) (map shows gs)) is c.loop-group.invariant.within in
-    let shows_group : cells_at c.deref.result.now group ≡ row_shown fields t group =
+    let shows_group : cells_at c.deref.result.now group ≡ row_values fields t group =
     ap (λ (s : List (Vec ValueSource)). cells_at s group) c.deref.ensures.value
     ∙ sources-at c.args.plan.now (sets_of fields t) c.in_ok-sources.sources.items group.0 within.0 c.in_ok-sources.ensures group.1.key group.1.cells in
     record {
-      shown = ap (λ (rs : List ReportRow). map cells_of rs ++ later) c.in_ok-push.ensures.items ∙ ap (λ (zs : List (List Summary)). zs ++ later) (map_push cells_of rows row) ∙ append_assoc (map cells_of rows) (cells_of row ∷ []) later
-          ∙ ap (λ (z : List Summary). map cells_of rows ++ z ∷ later) (c.in_ok-row_for.ensures ∙ shows_group) ∙ ap (λ (gs : List (Bor (ℕ × Group))). map cells_of rows ++ map (row_shown fields t) (map shows gs)) (sym is) ∙ c.loop-group.invariant.shown;
+      shown = ap (λ (rs : List ReportRow). map cells_of rs ++ later) c.in_ok-push.ensures.items ∙ ap (λ (zs : List (List CellValue)). zs ++ later) (map_push cells_of rows row) ∙ append_assoc (map cells_of rows) (cells_of row ∷ []) later
+          ∙ ap (λ (z : List CellValue). map cells_of rows ++ z ∷ later) (c.in_ok-row_for.ensures ∙ shows_group) ∙ ap (λ (gs : List (Bor (ℕ × Group))). map cells_of rows ++ map (row_values fields t) (map shows gs)) (sym is) ∙ c.loop-group.invariant.shown;
       within = within.1;
     }
 
@@ -66,4 +66,4 @@ pub returns-clause-wide : goal.returns-clause-wide
 returns-clause-wide c =
     let fields = c.args.plan.now.fields in
     let t = c.args.plan.now.query in
-    all-wide fields t c.loop-group.rows.items (map (row_shown fields t) (map (λ (r : Bor (ℕ × Group)). row_of r.now) c.loop-group.group-iterator.rest.items)) (rows_in_order fields t (map row_of c.args.groups.now)) c.loop-group.invariant.shown
+    all-wide fields t c.loop-group.rows.items (map (row_values fields t) (map (λ (r : Bor (ℕ × Group)). row_of r.now) c.loop-group.group-iterator.rest.items)) (sorted_rows fields t (map row_of c.args.groups.now)) c.loop-group.invariant.shown

@@ -6,7 +6,7 @@ use Rattle.std.proofs.lemmas.List.{get_or-map, length-map}
 use Rattle.query_ast.specs.Syntax.{predicate_form}
 use Rattle.query_resolve.specs.Resolution.{contents}
 use Rattle.semantics.specs.Sets.{sets_of}
-use Rattle.semantics.specs.Syntax.{TreeForm}
+use Rattle.semantics.specs.Syntax.{Query}
 use Rattle.report_rows.specs.Inside.Having.{IsHavingFor}
 use Rattle.report_rows.proofs.Keeping.{having-typed, is-typed}
 use Rattle.report_rows.proofs.RowScope.{bound-having, zip-next}
@@ -20,7 +20,7 @@ loop-set-preserved c =
     let plan = c.args.plan.now in
     let p = predicate_form c.in-Some.having in
     let written : plan.query.having_condition ≡ Some p =
-    ap (λ (f : TreeForm). f.having_condition) (sym (c.tree.ensures.form ∙ c.query-query.ensures.query)) ∙ ap (option_map predicate_form) c.in-Some.is in
+    ap (λ (f : Query). f.having_condition) (sym (c.tree.ensures.form ∙ c.query-query.ensures.query)) ∙ ap (option_map predicate_form) c.in-Some.is in
     let sets = c.sets-set-items.result.now in
     let i = c.loop-set.set-index in
     let n = length-map sets (λ (s : Vec ℕ). s.items) in

@@ -1,7 +1,7 @@
 use Rattle.std.proofs.Common.{◌≡◌, ◌∙◌, ◌+◌, Bor, ℕ, List, [], ◌∷◌, ◌++◌, ap, map, subst, sym, take, take_all}
 use Rattle.std.specs.List.{AllByRecursion}
 use Rattle.std.proofs.lemmas.List.{map-append, map_more}
-use Rattle.semantics.specs.Found.{Found}
+use Rattle.semantics.specs.ResultRows.{ResultRow}
 use Rattle.group_tables.specs.declared.group.Group.{Group}
 use Rattle.report_rows.specs.Inside.SortEntries.{IsCodableRow, coded_form, entry_at, entry_form}
 use Rattle.report_rows.proofs.InParts.{all-both}
@@ -24,7 +24,7 @@ loop-found-preserved c =
           ∙ (λ k. c.loop-found.invariant.entries k ++ ((c.in_ok-key.ensures.key k, row_at found) ∷ []))
           ∙ sym (ap (map rank) more ∙ map-append rank (map row_at (take i rows)) (row_at found ∷ []));
       codable =
-          subst (λ (xs : List Found). AllByRecursion (IsCodableRow cs) xs) (sym more)
+          subst (λ (xs : List ResultRow). AllByRecursion (IsCodableRow cs) xs) (sym more)
           (all-both (IsCodableRow cs) (map row_at (take i rows)) (row_at found ∷ []) c.loop-found.invariant.codable (c.in_ok-key.ensures.codable, tt));
     }
 

@@ -2,7 +2,7 @@ use Rattle.std.proofs.Common.{◌≡◌, ◌∙◌, ◌*◌, List, IfOk, length,
 use denote.Param.Send.{sendable}
 use Rattle.std.proofs.Crossing as std
 use Rattle.std.proofs.lemmas.List.{drop-map, length-map, take-map}
-use Rattle.semantics.specs.Found.{Found}
+use Rattle.semantics.specs.ResultRows.{ResultRow}
 use Rattle.report_rows.specs.Inside.SortEntries.{AreEntriesOf, coded_form}
 use Rattle.report_rows.proofs.InParts.{parts-cover, parts-made}
 use Rattle.report_rows.proofs.Rows.{row_at}
@@ -27,5 +27,5 @@ returns g c =
     let k = (c.in_ok-parts.ensures.each n d low).1 in
     let part : map row_at k.argument.now ≡ take size (drop (n * size) (map row_at groups)) =
     ap (map row_at) k.argument_is.value ∙ sym (take-map row_at size (drop (n * size) groups)) ∙ ap (take size) (sym (drop-map row_at (n * size) groups)) in
-    subst (λ (rows : List Found). IfOk (get_or parts n d) (λ made. are rows made.items)) part k.call)
+    subst (λ (rows : List ResultRow). IfOk (get_or parts n d) (λ made. are rows made.items)) part k.call)
     (omega (arith, count, cover))

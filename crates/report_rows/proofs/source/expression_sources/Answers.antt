@@ -1,8 +1,8 @@
 use Rattle.std.proofs.Common.{◌≡◌, ◌∙◌, ◌++◌, ◌<◌, ◌≤◌, ℕ, List, [], ◌∷◌, length, get_or, map, take, take_all, ap, sym, arith}
 use Rattle.std.specs.Global.{Vec}
 use Rattle.std.proofs.lemmas.List.{get_or-map, length-map, map-append, map_more}
-use Rattle.semantics.specs.Aggregates.{Summary}
-use Rattle.semantics.specs.Rows.{expression_shown}
+use Rattle.semantics.specs.Aggregates.{CellValue}
+use Rattle.semantics.specs.Rows.{expression_value}
 use Rattle.query_ast.specs.Syntax.{expression_form}
 use Rattle.query_resolve.specs.Resolution.{contents}
 use Rattle.report_rows.specs.Sources.{shown_at}
@@ -10,7 +10,7 @@ use Rattle.report_rows.proofs.source.expression_sources.Goals as goal
 
 pub loop-set-preserved : goal.loop-set-preserved
 loop-set-preserved c = λ key cells.
-    let shown : List ℕ → Summary = λ set. expression_shown c.args.plan.now.fields c.args.plan.now.query set key cells (expression_form c.args.expression.now) in
+    let shown : List ℕ → CellValue = λ set. expression_value c.args.plan.now.fields c.args.plan.now.query set key cells (expression_form c.args.expression.now) in
     let lists = c.sets-set-items.result.now in
     let sets = contents lists in
     let i = c.loop-set.set-index in
@@ -26,7 +26,7 @@ loop-set-preserved c = λ key cells.
 
 pub returns : goal.returns
 returns c = λ key cells.
-    let shown : List ℕ → Summary = λ set. expression_shown c.args.plan.now.fields c.args.plan.now.query set key cells (expression_form c.args.expression.now) in
+    let shown : List ℕ → CellValue = λ set. expression_value c.args.plan.now.fields c.args.plan.now.query set key cells (expression_form c.args.expression.now) in
     let lists = c.sets-set-items.result.now in
     let i = c.loop-set.set-index in
     let n = length-map lists (λ (s : Vec ℕ). s.items) in

@@ -1,5 +1,5 @@
 use Rattle.std.proofs.Common.{◌≡◌, ◌∙◌, Bor, map, ap, refl, sym, take_all}
-use Rattle.semantics.specs.Syntax.{ItemForm, TreeForm}
+use Rattle.semantics.specs.Syntax.{SelectItem, Query}
 use Rattle.query_ast.specs.declared.expression.Expression.{Expression}
 use Rattle.query_ast.specs.declared.tree.Item.{Item}
 use Rattle.query_ast.specs.Syntax.{expression_form, item_form}
@@ -14,8 +14,8 @@ loop-item-preserved c =
 pub returns : goal.returns
 returns c =
     let items = c.as_slice-items.result.now in
-    let tree : map item_form items ≡ c.args.plan.now.query.items = ap (map item_form) c.as_slice-items.ensures.value ∙ ap (λ (f : TreeForm). f.items) (c.tree.ensures.form ∙ c.query.ensures.query) in
+    let tree : map item_form items ≡ c.args.plan.now.query.items = ap (map item_form) c.as_slice-items.ensures.value ∙ ap (λ (f : Query). f.items) (c.tree.ensures.form ∙ c.query.ensures.query) in
     c.loop-item.invariant
     ∙ ap (map (λ (item : Item). expression_form item.expression)) (take_all c.loop-item.item-index items c.loop-item-test.false)
-    ∙ sym (map-twice (λ (item : ItemForm). item.expression) item_form items)
-    ∙ ap (map (λ (item : ItemForm). item.expression)) tree
+    ∙ sym (map-twice (λ (item : SelectItem). item.expression) item_form items)
+    ∙ ap (map (λ (item : SelectItem). item.expression)) tree

@@ -4,12 +4,12 @@ use Rattle.query_ast.specs.declared.expression.Expression.{Expression}
 use Rattle.query_ast.specs.Syntax.{expression_form}
 use Rattle.report_rows.specs.Inside.Sources.{expression_forms}
 use Rattle.report_rows.specs.Sources.{shown_at}
-use Rattle.semantics.specs.Rows.{expression_shown}
+use Rattle.semantics.specs.Rows.{expression_value}
 use Rattle.report_rows.proofs.source.sources_of.Goals as goal
 
 pub loop-expression-preserved : goal.loop-expression-preserved
 loop-expression-preserved c = λ key cells.
-    let shown = expression_shown c.args.plan.now.fields c.args.plan.now.query c.args.set.now key cells in
+    let shown = expression_value c.args.plan.now.fields c.args.plan.now.query c.args.set.now key cells in
     let all = c.args.expressions.now in
     let i = c.loop-expression.expression-index in
     let one = c.expression-item.result in
@@ -26,4 +26,4 @@ loop-expression-preserved c = λ key cells.
 pub returns : goal.returns
 returns c = λ key cells.
     c.loop-expression.invariant key cells
-    ∙ ap (λ es. map (expression_shown c.args.plan.now.fields c.args.plan.now.query c.args.set.now key cells) (expression_forms es)) (take_all c.loop-expression.expression-index c.args.expressions.now c.loop-expression-test.false)
+    ∙ ap (λ es. map (expression_value c.args.plan.now.fields c.args.plan.now.query c.args.set.now key cells) (expression_forms es)) (take_all c.loop-expression.expression-index c.args.expressions.now c.loop-expression-test.false)

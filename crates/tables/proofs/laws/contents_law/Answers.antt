@@ -3,8 +3,8 @@ use Rattle.semantics.specs.GroupStates.{entries_over}
 use Rattle.query_resolve.specs.Functions.{indexed_functions}
 use Rattle.semantics.specs.Aggregates.{AggregateFunction}
 use Rattle.semantics.specs.Conditions.{kept_records}
-use Rattle.semantics.specs.Found.{aggregate_functions}
-use Rattle.semantics.specs.Groups.{Row}
+use Rattle.semantics.specs.ResultRows.{aggregate_functions}
+use Rattle.semantics.specs.Groups.{Record}
 use Rattle.semantics.specs.Records.{refused_lines}
 use Rattle.semantics.specs.Sets.{grouping_places}
 use Rattle.group_tables.specs.Table.{IsTableOf}
@@ -24,7 +24,7 @@ returns c = λ plan partial input sound has.
     let rows = kept_records plan.fields plan.query (records_of plan.fields (whole_piece input)) in
     let piece = one-piece input in
     let groups = has.groups
-    ∙ ap (λ (rs : List Row). entries_over grouping (aggregate_functions plan.fields plan.query) (kept_records plan.fields plan.query rs)) (sym (cut-records plan.fields input (whole_piece input) piece))
+    ∙ ap (λ (rs : List Record). entries_over grouping (aggregate_functions plan.fields plan.query) (kept_records plan.fields plan.query rs)) (sym (cut-records plan.fields input (whole_piece input) piece))
     ∙ ap (λ (fs : List AggregateFunction). entries_over grouping fs rows) (sym (bound-functions plan)) in
     record {
       pieces = whole_piece input;

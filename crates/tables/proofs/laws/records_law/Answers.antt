@@ -1,7 +1,7 @@
 use Rattle.semantics.specs.Sets.{sets_of}
 use Rattle.semantics.specs.Conditions.{is_kept, kept_records}
 use Rattle.group_tables.proofs.Bags.{bag-filter}
-use Rattle.semantics.specs.Found.{aggregate_functions}
+use Rattle.semantics.specs.ResultRows.{aggregate_functions}
 use Rattle.tables.proofs.Finding.{found-same}
 use Rattle.tables.proofs.laws.records_law.Goals as goal
 

@@ -11,7 +11,7 @@ use Rattle.group_tables.specs.Functions.{aggregate_of}
 use Rattle.group_tables.specs.Fitting.{AreFitting}
 use Rattle.group_tables.specs.Table.{HasFewRecords, IsTableOf}
 use Rattle.group_tables.specs.Rolled.{AreAmong}
-use Rattle.semantics.specs.Found.{aggregate_functions, query_found}
+use Rattle.semantics.specs.ResultRows.{aggregate_functions, rows_before_having}
 use Rattle.tables.specs.Functions.{filter_tests}
 use Rattle.tables.specs.Inside.Properties.{AreGroupsOf, HasProperty, of_records, of_types}
 use Rattle.tables.proofs.Bound.{bound-functions}
@@ -45,7 +45,7 @@ returns-clause-rows g c = IfOk-weaker c.flatten_groups.result _ _ (λ rows is re
     subst (λ (gs : List AggregateFunction). AreGroupsOfRecords gs members (sets_of plan.fields plan.query) groups) bound_are
     (subst (λ sets. AreGroupsOfRecords (map (aggregate_of filters) c.set_functions.result.now) members sets groups) c.sets.ensures.sets
     (c.in_ok-groups.ensures (of_records filters members) finest)) in
-    subst (λ found. SameBag found (query_found plan.fields plan.query records)) (sym is) (all-found (sets_of plan.fields plan.query) fs groups members of_sets)) c.flatten_groups.ensures
+    subst (λ found. SameBag found (rows_before_having plan.fields plan.query records)) (sym is) (all-found (sets_of plan.fields plan.query) fs groups members of_sets)) c.flatten_groups.ensures
 
 pub returns-clause-fit : goal.returns-clause-fit
 returns-clause-fit g c = IfOk-weaker c.flatten_groups.result _ _ (λ rows is typed.

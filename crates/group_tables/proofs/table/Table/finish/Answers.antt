@@ -1,7 +1,7 @@
 use Rattle.std.proofs.Common.{ℕ, List, Vec, Global, map, sym, ◌∙◌}
 use Rattle.std.proofs.lemmas.Result.{IfOk-weaker}
 use Rattle.semantics.specs.Aggregates.{AggregateFunction}
-use Rattle.semantics.specs.Groups.{Row}
+use Rattle.semantics.specs.Groups.{Record}
 use Rattle.group_tables.specs.GroupSummaries.{group_summary_in}
 use Rattle.group_tables.specs.declared.group.Group.{Group}
 use Rattle.group_tables.specs.Inside.GroupsOfShards.{AreGroupsOfShards}
@@ -24,7 +24,7 @@ returns g c =
     record {
       groups = IfOk-weaker c.finish_shards.result _ _
           (λ (all : Vec Group Global). λ (h : AreGroupsOfShards shards all.items).
-          λ (set : List ℕ) (fs : List AggregateFunction) (rows : List Row) (a : IsTableOf set fs c.args.self rows) f.
+          λ (set : List ℕ) (fs : List AggregateFunction) (rows : List Record) (a : IsTableOf set fs c.args.self rows) f.
           sym (bag-permutation (entry_summaries es) (map group_summary_in all.items) h f)
           ∙ lines-bag set fs rows (entries_by_key es) c.args.self c.self.view_is a (distinct-shown es distinct) f)
           c.finish_shards.ensures;

@@ -3,7 +3,7 @@ use Rattle.std.proofs.lemmas.Result.{IfOk-weaker}
 use Rattle.query_resolve.specs.declared.function.FilteredFunction.{FilteredFunction}
 use Rattle.std.specs.FinMap as fin
 use Rattle.group_tables.specs.Functions.{aggregate_of}
-use Rattle.semantics.specs.Groups.{Key, Row}
+use Rattle.semantics.specs.Groups.{Key, Record}
 use Rattle.group_tables.specs.Inside.Group.{no_group}
 use Rattle.group_tables.specs.Table.{Contents, IsTableOf}
 use Rattle.group_tables.specs.Inside.Table.{IsPut}
@@ -16,12 +16,12 @@ returns c =
     let some : length set ≢ 0 = λ h. let t : (length set == 0) ≡ true = eq-eqb (length set) 0 h in let f = c.if-is_empty.ensures in cc in
     record {
       empty = IfOk-weaker c.without_groups.result _ _
-          (λ (t : Contents) (h : t ≡ fin.empty) (filters : List (Row → Bool)). table-no_group set (map (aggregate_of filters) c.args.functions.now) t some h)
+          (λ (t : Contents) (h : t ≡ fin.empty) (filters : List (Record → Bool)). table-no_group set (map (aggregate_of filters) c.args.functions.now) t some h)
           c.without_groups.ensures;
     }
 
 by_key : {E : Type 0} (set : List ℕ) (functions : List FilteredFunction) (r : Result Contents E) → length set ≡ 0 → IfOk r (λ t. (k : Key) → IsPut fin.empty t [] (no_group functions) k)
-    → IfOk r (λ t. (filters : List (Row → Bool)) → IsTableOf set (map (aggregate_of filters) functions) t [])
+    → IfOk r (λ t. (filters : List (Record → Bool)) → IsTableOf set (map (aggregate_of filters) functions) t [])
 by_key set functions (Ok t) z h = table-empty_set set functions t z h
 by_key set functions (Err e) z h = tt
 

@@ -1,5 +1,5 @@
 use Rattle.std.proofs.Common.{List, [], ap, map, refl, sym, subst, arith}
-use Rattle.semantics.specs.Order.{in_order}
+use Rattle.semantics.specs.Order.{sorted_by}
 use Rattle.query_resolve.specs.declared.function.FilteredFunction.{FilteredFunction}
 use Rattle.group_tables.specs.Table.{IsCounted}
 use Rattle.tables.specs.Notes.{note_in, note_order}
@@ -30,7 +30,7 @@ invariant_of-result g c =
     )
 
 pub returns : goal.returns
-returns g c = stands-from c.args.plan.now _ [] [] (ap (λ (ns : List PieceRefusals). in_order note_order (map note_in ns)) c.new.ensures.items) (record {
+returns g c = stands-from c.args.plan.now _ [] [] (ap (λ (ns : List PieceRefusals). sorted_by note_order (map note_in ns)) c.new.ensures.items) (record {
   sets = c.in_ok-shape.ensures.sets;
   functions = c.in_ok-shape.ensures.functions;
   filters = c.in_ok-shape.ensures.filters;

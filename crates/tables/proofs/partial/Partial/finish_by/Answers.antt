@@ -1,8 +1,8 @@
 use Rattle.std.proofs.Common.{◌∙◌, List, sym, ap, subst, refl}
 use Rattle.query_resolve.specs.Functions.{indexed_functions}
 use Rattle.group_tables.specs.Bags.{SameBag}
-use Rattle.semantics.specs.Groups.{Row}
-use Rattle.semantics.specs.Found.{Found, query_found}
+use Rattle.semantics.specs.Groups.{Record}
+use Rattle.semantics.specs.ResultRows.{ResultRow, rows_before_having}
 use Rattle.tables.specs.Notes.{notes_in}
 use Rattle.tables.specs.Pieces.{AreNumbered, records_of}
 use Rattle.tables.specs.Planned.{AreFittingUnder}
@@ -31,7 +31,7 @@ returns g c = record {
   rows = λ pieces given.
       let plan = c.args.plan.now in
       let p = has-from plan _ (notes_in c.self.inside.notes) pieces refl (c.self.view_is ∙ given) in
-      subst (λ (fs : List Found). SameBag fs (query_found plan.fields plan.query (records_of plan.fields pieces))) (sym c.new.ensures.rows)
+      subst (λ (fs : List ResultRow). SameBag fs (rows_before_having plan.fields plan.query (records_of plan.fields pieces))) (sym c.new.ensures.rows)
       (c.in_ok-rows.ensures.rows (records_of plan.fields pieces) p.table);
   fit =
       let plan = c.args.plan.now in
@@ -42,7 +42,7 @@ returns g c = record {
       let p = has-from plan _ (notes_in c.self.inside.notes) pieces refl (c.self.view_is ∙ given) in
       let rows = records_of plan.fields pieces in
       c.members_law.ensures plan c.new.result rows
-      (subst (λ (fs : List Found). SameBag fs (query_found plan.fields plan.query rows)) (sym c.new.ensures.rows)
+      (subst (λ (fs : List ResultRow). SameBag fs (rows_before_having plan.fields plan.query rows)) (sym c.new.ensures.rows)
       (c.in_ok-rows.ensures.rows rows p.table));
   numbered = λ pieces given own.
       let plan = c.args.plan.now in
@@ -59,8 +59,8 @@ returns g c = record {
       let plan = c.args.plan.now in
       let p = has-from plan _ (notes_in c.self.inside.notes) pieces refl (c.self.view_is ∙ given) in
       record {
-        rows = subst (λ (rows : List Row). SameBag c.new.result.found (query_found plan.fields plan.query rows)) (cut-records plan.fields input pieces w)
-            (subst (λ (fs : List Found). SameBag fs (query_found plan.fields plan.query (records_of plan.fields pieces))) (sym c.new.ensures.rows)
+        rows = subst (λ (rows : List Record). SameBag c.new.result.found (rows_before_having plan.fields plan.query rows)) (cut-records plan.fields input pieces w)
+            (subst (λ (fs : List ResultRow). SameBag fs (rows_before_having plan.fields plan.query (records_of plan.fields pieces))) (sym c.new.ensures.rows)
             (c.in_ok-rows.ensures.rows (records_of plan.fields pieces) p.table));
         refused = c.new.ensures.refused
             ∙ lines-in_order plan.fields pieces (notes_in c.self.inside.notes) c.in_ok-refused.refused.items w.in_order p.notes c.in_ok-refused.ensures

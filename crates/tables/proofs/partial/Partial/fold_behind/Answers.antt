@@ -2,7 +2,7 @@ use Rattle.std.proofs.Common.{◌≡◌, ◌+◌, ◌≤◌, [], ◌∷◌, ◌+
 use Rattle.std.proofs.Math.Logic.{∥∥₁_elim, ∥∥₁_map}
 use Rattle.std.proofs.Props.{props}
 use Rattle.semantics.specs.Lines.{lines}
-use Rattle.semantics.specs.Order.{in_order}
+use Rattle.semantics.specs.Order.{sorted_by}
 use Rattle.semantics.specs.Records.{refused_lines}
 use Rattle.group_tables.specs.Table.{IsCounted}
 use Rattle.query_resolve.specs.declared.function.FilteredFunction.{FilteredFunction}
@@ -112,7 +112,7 @@ returns c = record {
       concatenation-from (partial.the_view self) (of_piece plan piece) _ refl refl refl
       (read-both plan self.table (records_of plan.fields s.0) folding rest p.table read)
       (ap (λ n. self.lines + n) count) (ap (λ n. self.refused + n) refused)
-      (ap (λ (ns : List PieceRefusals). in_order note_order (map note_in ns)) c.in_ok-notes.ensures
+      (ap (λ (ns : List PieceRefusals). sorted_by note_order (map note_in ns)) c.in_ok-notes.ensures
       ∙ (λ i. note_of_one (self.lines + count i)
       ((c.in_ok-put_behind.ensures ∙ (λ j. first j ++ map (λ line. (self.lines + line.0, line.1)) (second j))) i) ∷ []))
       ∙ ap (λ v. concatenation v (of_piece plan piece)) c.self.view_is);

@@ -4,7 +4,7 @@ use Rattle.std.proofs.Props.{props}
 use Rattle.std.proofs.lemmas.List.{map-append}
 use Rattle.semantics.specs.Lines.{lines}
 use Rattle.group_tables.specs.Bags.{SameBag}
-use Rattle.semantics.specs.Groups.{Row}
+use Rattle.semantics.specs.Groups.{Record}
 use Rattle.group_tables.specs.Table.{IsCounted, IsTableOf}
 use Rattle.query_resolve.specs.declared.function.FilteredFunction.{FilteredFunction}
 use Rattle.semantics.specs.Sets.{grouping_places}
@@ -16,7 +16,7 @@ use Rattle.tables.specs.Notes.{Noted, note_in, note_of, notes_in}
 use Rattle.tables.specs.Partials.{both, of_piece}
 use Rattle.tables.specs.Pieces.{IndexedPiece, all_lines, records_of}
 use Rattle.tables.specs.States.{PartialState}
-use Rattle.semantics.specs.Found.{aggregate_functions}
+use Rattle.semantics.specs.ResultRows.{aggregate_functions}
 use Rattle.tables.proofs.Sound.{table-counted}
 use Rattle.tables.proofs.Standing.{has-from, partials-prop, stands-from}
 use Rattle.tables.proofs.Growing.{few-records, lines-more, notes-more, one-noted_more, records-more, refused-more}
@@ -92,7 +92,7 @@ returns c = ∥∥₁_elim c.requires.of_plan (partials-prop _ _) (λ s.
       sets = p.sets;
       functions = p.functions;
       filters = p.filters;
-      table = subst (λ (rows : List Row). IsTableOf (grouping_places plan.fields plan.query) (aggregate_functions plan.fields plan.query) folding.table (kept_records plan.fields plan.query rows)) (sym (records-more plan.fields pieces c.args.index bytes)) read.table;
+      table = subst (λ (rows : List Record). IsTableOf (grouping_places plan.fields plan.query) (aggregate_functions plan.fields plan.query) folding.table (kept_records plan.fields plan.query rows)) (sym (records-more plan.fields pieces c.args.index bytes)) read.table;
       lines = (let x = p.lines in let y = read.lines in let z = lines-more pieces c.args.index bytes in omega (arith, x, y, z));
       refused = (let x = p.refused in let y = read.count in let z = refused-more plan.fields pieces c.args.index bytes in omega (arith, x, y, z));
       notes = subst (λ (ns : List Noted). SameBag (map (note_of plan.fields) (pieces ++ record { index = c.args.index; bytes = bytes } ∷ [])) ns)

@@ -4,11 +4,11 @@ use Rattle.semantics.specs.Sets.{grouping_places}
 use Rattle.semantics.specs.Conditions.{kept_records}
 use Rattle.tables.specs.Folding.{valid_records_of}
 use Rattle.group_tables.specs.Bags.{SameBag}
-use Rattle.semantics.specs.Groups.{Row}
+use Rattle.semantics.specs.Groups.{Record}
 use Rattle.group_tables.specs.Table.{IsCounted, IsTableOf}
 use Rattle.query_resolve.specs.declared.function.FilteredFunction.{FilteredFunction}
 use Rattle.tables.specs.Notes.{Noted, note_in, note_of}
-use Rattle.semantics.specs.Found.{aggregate_functions}
+use Rattle.semantics.specs.ResultRows.{aggregate_functions}
 use Rattle.tables.proofs.Growing.{lines-more, notes-more, records-more, refused-more}
 use Rattle.tables.proofs.Merging.{one-note}
 use Rattle.tables.proofs.Reading.{length-valid_of, length-kept, length-lines, length-refused_of}
@@ -59,7 +59,7 @@ returns g c =
       sets = c.in_ok-shape.ensures.sets;
       functions = c.in_ok-shape.ensures.functions;
       filters = c.in_ok-shape.ensures.filters;
-      table = subst (λ (rows : List Row). IsTableOf (grouping_places plan.fields plan.query) (aggregate_functions plan.fields plan.query) folding.table (kept_records plan.fields plan.query rows)) (sym (records-more plan.fields [] c.args.index bytes)) read.table;
+      table = subst (λ (rows : List Record). IsTableOf (grouping_places plan.fields plan.query) (aggregate_functions plan.fields plan.query) folding.table (kept_records plan.fields plan.query rows)) (sym (records-more plan.fields [] c.args.index bytes)) read.table;
       lines = (let y = read.lines in let z = lines-more [] c.args.index bytes in omega (arith, y, z));
       refused = (let y = read.count in let z = refused-more plan.fields [] c.args.index bytes in omega (arith, y, z));
       notes = subst (λ (ns : List Noted). SameBag (map (note_of plan.fields) (record { index = c.args.index; bytes = bytes } ∷ [])) ns)

@@ -1,5 +1,5 @@
 use Rattle.std.proofs.Common.{◌≡◌, ◌+◌, ◌<◌, ◌≤◌, ◌^◌, [], ◌∷◌, ◌++◌, List, All, map, refl, sym, ap, subst, ◌∙◌, arith}
-use Rattle.semantics.specs.Order.{in_order}
+use Rattle.semantics.specs.Order.{sorted_by}
 use Rattle.group_tables.specs.Table.{IsCounted, both_tables}
 use Rattle.tables.specs.Notes.{note_in, note_order, notes_in}
 use Rattle.tables.specs.Partials.{HasOwnIndexes, concatenation, note_of_one}
@@ -77,7 +77,7 @@ returns-clause-stands g c = λ own others.
     let behind = c.in_ok-gather_behind.ensures in
     let second = lines-own (notes_in b.notes) behind.lines (subst (λ (v : PartialState). HasOwnIndexes v) (sym c.rest.view_is) others) behind.of_notes in
     concatenation-from (partial.the_view a) (partial.the_view b) _ refl refl refl c.in_ok-merged.ensures.merged refl refl
-    (ap (λ (ns : List PieceRefusals). in_order note_order (map note_in ns)) c.in_ok-notes.ensures
+    (ap (λ (ns : List PieceRefusals). sorted_by note_order (map note_in ns)) c.in_ok-notes.ensures
     ∙ ap (λ found. note_of_one (a.lines + b.lines) found ∷ []) (behind.behind ∙ (λ i. first i ++ map (λ line. (a.lines + line.0, line.1)) (second i))))
     ∙ (λ i. concatenation (c.self.view_is i) (c.rest.view_is i))
 

@@ -1,5 +1,5 @@
 use Rattle.std.proofs.Common.{◌≤◌, All, refl, sym, ap, subst, ◌∙◌, arith}
-use Rattle.semantics.specs.Order.{in_order}
+use Rattle.semantics.specs.Order.{sorted_by}
 use Rattle.tables.specs.Notes.{note_order, notes_in}
 use Rattle.tables.specs.Partials.{HasOwnIndexes, as_one, notes_of_one}
 use Rattle.tables.specs.States.{PartialState}
@@ -28,7 +28,7 @@ returns-clause-stands c = λ own.
     let self = c.self.inside in
     let found = lines-own (notes_in self.notes) c.in_ok-gathered.gathered (subst (λ (v : PartialState). HasOwnIndexes v) (sym c.self.view_is) own) c.in_ok-gathered.ensures in
     one-from (partial.the_view self) _ refl refl refl refl refl refl
-    (ap (in_order note_order) c.in_ok-notes.ensures ∙ one-in_order self.lines c.in_ok-gathered.gathered ∙ ap (notes_of_one self.lines) found)
+    (ap (sorted_by note_order) c.in_ok-notes.ensures ∙ one-in_order self.lines c.in_ok-gathered.gathered ∙ ap (notes_of_one self.lines) found)
     ∙ ap as_one c.self.view_is
 
 pub returns-clause-groups : goal.returns-clause-groups

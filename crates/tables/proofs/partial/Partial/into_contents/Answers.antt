@@ -1,8 +1,8 @@
 use Rattle.std.proofs.Common.{List, ap, ◌∙◌, arith, refl}
 use Rattle.semantics.specs.GroupStates.{entries_over}
 use Rattle.semantics.specs.Conditions.{kept_records}
-use Rattle.semantics.specs.Found.{aggregate_functions}
-use Rattle.semantics.specs.Groups.{Row}
+use Rattle.semantics.specs.ResultRows.{aggregate_functions}
+use Rattle.semantics.specs.Groups.{Record}
 use Rattle.semantics.specs.Sets.{grouping_places}
 use Rattle.tables.specs.Notes.{notes_in}
 use Rattle.tables.specs.Pieces.{records_of}
@@ -27,5 +27,5 @@ returns c = λ plan input given.
     let refused = refused-in_order plan.fields input given.pieces (notes_in self.notes) c.in_ok-refused_lines.refused_lines.items given.cut p.notes c.in_ok-refused_lines.ensures in
     let groups = c.in_ok-groups.ensures
     ∙ c.entries_law.ensures.of_records grouping fs self.table (kept_records plan.fields plan.query (records_of plan.fields given.pieces)) p.table
-    ∙ ap (λ (rows : List Row). entries_over grouping fs (kept_records plan.fields plan.query rows)) (cut-records plan.fields input given.pieces given.cut) in
+    ∙ ap (λ (rows : List Record). entries_over grouping fs (kept_records plan.fields plan.query rows)) (cut-records plan.fields input given.pieces given.cut) in
     λ i. record { lines = lines i; refused = refused i; groups = groups i }

@@ -2,7 +2,7 @@ use Rattle.std.proofs.Common.{◌≡◌, ◌+◌, ◌<◌, ◌^◌, ◌++◌, Al
 use Rattle.std.proofs.lemmas.List.Sums.{sum_by-append}
 use Rattle.std.proofs.lemmas.List.{map-append}
 use Rattle.std.proofs.lemmas.List.Elements.{All-append}
-use Rattle.semantics.specs.Order.{in_order}
+use Rattle.semantics.specs.Order.{sorted_by}
 use Rattle.group_tables.specs.Table.{IsCounted}
 use Rattle.group_tables.proofs.Sorting.{sum_by-in_order}
 use Rattle.tables.specs.Laws.{notes-same}
@@ -55,10 +55,10 @@ returns g c =
     let b = c.other.inside in
     let joined : notes_in c.append.new.self ≡ notes_in a.notes ++ notes_in b.notes = ap (map note_in) c.in_ok-append.ensures.items ∙ map-append note_in a.notes.items b.notes.items in
     both-from (partial.the_view a) (partial.the_view b) _ refl refl refl c.in_ok-merged.ensures.merged refl refl
-    (notes-same (notes_in c.append.new.self) (in_order note_order (notes_in a.notes) ++ in_order note_order (notes_in b.notes)) (λ w.
+    (notes-same (notes_in c.append.new.self) (sorted_by note_order (notes_in a.notes) ++ sorted_by note_order (notes_in b.notes)) (λ w.
     let all = ap (sum_by w) joined in
     let apart = sum_by-append w (notes_in a.notes) (notes_in b.notes) in
-    let both = sum_by-append w (in_order note_order (notes_in a.notes)) (in_order note_order (notes_in b.notes)) in
+    let both = sum_by-append w (sorted_by note_order (notes_in a.notes)) (sorted_by note_order (notes_in b.notes)) in
     let first = sum_by-in_order note_order w (notes_in a.notes) in
     let second = sum_by-in_order note_order w (notes_in b.notes) in
     omega (arith, all, apart, both, first, second)))

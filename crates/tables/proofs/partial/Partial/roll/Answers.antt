@@ -5,7 +5,7 @@ use Rattle.group_tables.specs.Functions.{aggregate_of}
 use Rattle.group_tables.specs.Table.{IsTableOf}
 use Rattle.semantics.specs.Sets.{grouping_places}
 use Rattle.semantics.specs.Conditions.{kept_records}
-use Rattle.semantics.specs.Found.{aggregate_functions}
+use Rattle.semantics.specs.ResultRows.{aggregate_functions}
 use Rattle.tables.specs.Functions.{filter_tests}
 use Rattle.tables.specs.Pieces.{records_of}
 use Rattle.tables.specs.Inside.Sets.{AreGroupsOfSet}

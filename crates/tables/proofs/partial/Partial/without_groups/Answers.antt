@@ -3,7 +3,7 @@ use Rattle.std.proofs.lemmas.List.Elements.{All-same}
 use Rattle.semantics.specs.declared.line_fault.LineFault.{LineFault}
 use Rattle.query_resolve.specs.Functions.{indexed_functions}
 use Rattle.semantics.specs.Sets.{grouping_places}
-use Rattle.semantics.specs.Order.{in_order}
+use Rattle.semantics.specs.Order.{sorted_by}
 use Rattle.tables.specs.Notes.{Noted, note_in, note_order}
 use Rattle.tables.specs.declared.piece_refusals.PieceRefusals.{PieceRefusals}
 use Rattle.tables.proofs.Merging.{one-note}
@@ -47,7 +47,7 @@ pub returns-clause-refusals : goal.returns-clause-refusals
 returns-clause-refusals g c = record {
   lines = refl;
   refused = (let n = c.len-count.ensures in let ok = c.args.refused.ok in omega (arith, n, ok));
-  notes = ap (λ (ns : List PieceRefusals). in_order note_order (map note_in ns)) c.in_ok-notes.ensures ∙ ap (λ (ls : List (ℕ × LineFault)). noted c.args.lines ls ∷ []) (c.in_ok-refusals.ensures ∙ c.as_slice.ensures.value);
+  notes = ap (λ (ns : List PieceRefusals). sorted_by note_order (map note_in ns)) c.in_ok-notes.ensures ∙ ap (λ (ls : List (ℕ × LineFault)). noted c.args.lines ls ∷ []) (c.in_ok-refusals.ensures ∙ c.as_slice.ensures.value);
 }
 
 pub returns-clause-groups : goal.returns-clause-groups

@@ -1,13 +1,13 @@
 use Rattle.std.proofs.Common.{Bool, List, [], ◌∷◌, length, arith}
 use Rattle.std.proofs.lemmas.List.{length-map}
 use Rattle.group_tables.specs.Functions.{aggregate_of}
-use Rattle.semantics.specs.Groups.{Row, value_at}
-use Rattle.semantics.specs.Aggregates.{is_present}
+use Rattle.semantics.specs.Groups.{Record, value_at}
+use Rattle.semantics.specs.Aggregates.{is_non_null}
 use Rattle.group_tables.proofs.Meaning.{table-within, within-can_join}
 use Rattle.test_libraries.proofs.tests.grouping.joined_groups.Goals as goal
 
-abbrev filters : List (Row → Bool)
-filters = (λ row. is_present (value_at 1 row)) ∷ []
+abbrev filters : List (Record → Bool)
+filters = (λ row. is_non_null (value_at 1 row)) ∷ []
 
 pub absorb-requires-clause-join : goal.absorb-requires-clause-join
 absorb-requires-clause-join c =

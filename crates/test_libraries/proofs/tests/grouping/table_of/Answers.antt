@@ -1,11 +1,11 @@
 use Rattle.std.proofs.Common.{Bool, List, [], ◌∷◌, ◌++◌, refl, ap, arith, length-append}
 use Rattle.values.specs.Datum.{data_of}
-use Rattle.semantics.specs.Groups.{Row, value_at}
-use Rattle.semantics.specs.Aggregates.{is_present}
+use Rattle.semantics.specs.Groups.{Record, value_at}
+use Rattle.semantics.specs.Aggregates.{is_non_null}
 use Rattle.test_libraries.proofs.tests.grouping.table_of.Goals as goal
 
-abbrev filters : List (Row → Bool)
-filters = (λ row. is_present (value_at 1 row)) ∷ []
+abbrev filters : List (Record → Bool)
+filters = (λ row. is_non_null (value_at 1 row)) ∷ []
 
 pub loop-fields-init : goal.loop-fields-init
 loop-fields-init c = ([], (c.in_ok-table.ensures.empty filters, refl))

@@ -1,11 +1,11 @@
 use Rattle.std.proofs.Common.{◌-◌, ◌^◌, Bool, List, [], ◌∷◌, arith}
-use Rattle.semantics.specs.Groups.{Row, value_at}
-use Rattle.semantics.specs.Aggregates.{is_present}
+use Rattle.semantics.specs.Groups.{Record, value_at}
+use Rattle.semantics.specs.Aggregates.{is_non_null}
 use Rattle.group_tables.proofs.Counted.{records-counted}
 use Rattle.test_libraries.proofs.tests.grouping.table_of_few.Goals as goal
 
-abbrev filters : List (Row → Bool)
-filters = (λ row. is_present (value_at 1 row)) ∷ []
+abbrev filters : List (Record → Bool)
+filters = (λ row. is_non_null (value_at 1 row)) ∷ []
 
 pub returns : goal.returns
 returns c =
