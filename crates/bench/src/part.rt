@@ -8,8 +8,8 @@
 ghost use Rattle.std.specs.Prelude.{◌≤◌, ◌<◌, length};
 ghost use Rattle.semantics.specs.Limits.{input_limit};
 
-use crate::fold::{LONGEST, plan_of, result_of};
 use crate::hands_of;
+use crate::result::{LONGEST, plan_of, result_of};
 use parts::{read_parts, write_part};
 use query::Plan;
 use std::alloc::Global;

@@ -1,3 +1,2 @@
-mod Examples
 mod Decided
-mod Rows
+mod examples

@@ -52,16 +52,6 @@ impl Text {
             text: self.text.clone()?,
         })
     }
-
-    /// The string of a text. It takes no memory.
-    ///
-    /// Example: `Text::from_string(name).into_string()` has the characters that `name` had.
-    pub fn into_string(self) -> String
-        ensures { string_bytes result ≡ self }
-    {
-        let Text { text } = self;
-        text
-    }
 }
 
 impl PartialEq for Text {

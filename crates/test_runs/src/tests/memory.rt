@@ -41,7 +41,7 @@ fn no_memory_for_records(rt: HostRuntime) -> Result<(), Fail> {
         Truth::True
     );
     let values = record.into_values();
-    let name = Text::from_string(name).into_string();
+    let name = Text::from_string(name);
     drop(RecordReader::new(alloc));
     mark(alloc);
     drop(name);
