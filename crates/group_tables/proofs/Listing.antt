@@ -14,7 +14,7 @@ use Rattle.sort_keys.specs.SortKeys.{SortParts, parts_of}
 use Rattle.values.specs.GroupStates.{entries_of, entry_of}
 use Rattle.semantics.specs.GroupStates.{EntryForm}
 use Rattle.values.specs.declared.group_entry.GroupEntry.{GroupEntry}
-use Rattle.group_tables.specs.declared.keyed.Keyed.{Keyed}
+use Rattle.group_tables.specs.declared.key_order.Keyed.{Keyed}
 use Rattle.group_tables.specs.declared.packed_key.PackedKey.{PackedKey}
 use Rattle.group_tables.specs.Entries.{entry_at, table_entries}
 use Rattle.group_tables.specs.Group.{GroupState}

@@ -11,7 +11,7 @@ use Rattle.std.specs.List.Sorted.{IsStrictlySortedBy}
 use Rattle.std.specs.Ordering.{eq_by_cmp, is_eq}
 use Rattle.sort_keys.specs.SortKeys.{SortParts, key_parts, parts_order}
 use Rattle.sort_keys.proofs.Totals.{parts-total}
-use Rattle.group_tables.specs.declared.keyed.Keyed.{Keyed}
+use Rattle.group_tables.specs.declared.key_order.Keyed.{Keyed}
 use Rattle.group_tables.specs.Inside.Keyed.{is_before}
 use Rattle.group_tables.proofs.Ascending.{keys-sorted}
 

@@ -3,8 +3,8 @@ use Rattle.std.specs.Prelude.{⊤}
 use Rattle.std.specs.declared.hash.DefaultHasher.{DefaultHasher}
 use Rattle.std.specs.Hash.DefaultHasher.{initial}
 use Rattle.std.specs.RandomState as random
-use Rattle.group_tables.specs.declared.hashing.HashSeed.{HashSeed}
-use Rattle.group_tables.specs.declared.hashing.HashSeed.TheVariants as seed
+use Rattle.group_tables.specs.declared.hash.HashSeed.{HashSeed}
+use Rattle.group_tables.specs.declared.hash.HashSeed.TheVariants as seed
 
 -- the hasher that a seed begins with
 abbrev pub initial_hasher : HashSeed → DefaultHasher

@@ -1,6 +1,6 @@
 //! The different values that `COUNT(DISTINCT x)` counts.
 
-use crate::accumulator::is_present;
+use crate::accumulator::is_non_null;
 use crate::memory::Memory;
 use crate::value_set::ValueSet;
 use std::alloc::{AllocError, Global};
@@ -62,7 +62,7 @@ impl DistinctValues {
         ensures { OnOk result (self.new
             ≡ set.union self.old (set_of (non_null (datum_of value.now ∷ [])))) }
     {
-        if !is_present(value) {
+        if !is_non_null(value) {
             return Ok(());
         }
         self.values.insert_copy(memory, value)

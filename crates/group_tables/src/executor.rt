@@ -2,7 +2,7 @@
 ghost use Rattle.std.specs.Prelude.{◌<◌};
 ghost use denote.Param.Send.{IsSync};
 
-use crate::hashing::HashSeed;
+use crate::hash::HashSeed;
 use std::marker::Sync;
 use std::thread::Threads;
 

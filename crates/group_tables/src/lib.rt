@@ -12,11 +12,11 @@ mod copy;
 mod distinct_values;
 mod executor;
 mod extreme;
-mod finishing;
+mod finish;
 mod group;
-mod hashing;
+mod hash;
 mod key;
-mod keyed;
+mod key_order;
 mod laws;
 mod memory;
 mod packed_key;
@@ -33,7 +33,7 @@ mod walk;
 pub use cell::Cell;
 pub use executor::{Executor, Operation, Parallel, Serial};
 pub use group::Group;
-pub use hashing::HashSeed;
+pub use hash::HashSeed;
 pub use laws::{
     both_law, counted_law, entries_law, members_law, order_law, records_law, roll_law, typed_law,
 };

@@ -1,6 +1,6 @@
 //! What tables are made in.
 
-use crate::hashing::HashSeed;
+use crate::hash::HashSeed;
 use std::alloc::Global;
 
 /// Where a table's memory comes from, and the seed by which its maps and sets are hashed.

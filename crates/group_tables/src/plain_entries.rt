@@ -8,7 +8,7 @@ ghost use Rattle.group_tables.specs.Keys.{key_in};
 ghost use Rattle.group_tables.specs.Shards.{AreApart, all_entries, contents_of_shards, entries_in};
 
 use crate::accumulators::Accumulators;
-use crate::keyed::{Keyed, sort_keyed, things_of};
+use crate::key_order::{Keyed, sort_keyed, things_of};
 use crate::packed_key::PackedKey;
 use crate::shard::Shard;
 use sort_keys::SortKey;

@@ -8,7 +8,7 @@ ghost use Rattle.group_tables.specs.Inside.Keys.{key_eq};
 ghost use Rattle.group_tables.specs.declared.shard.TheConstants.{MOST};
 
 use crate::accumulators::Accumulators;
-use crate::hashing::HashSeed;
+use crate::hash::HashSeed;
 use crate::memory::Memory;
 use crate::packed_key::PackedKey;
 use crate::part::Part;

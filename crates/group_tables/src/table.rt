@@ -5,9 +5,9 @@ ghost use Rattle.group_tables.specs.Shards.{AreApart};
 
 use crate::accumulators::Accumulators;
 use crate::executor::Executor;
-use crate::finishing::finish_shards;
+use crate::finish::finish_shards;
 use crate::group::Group;
-use crate::hashing::HashSeed;
+use crate::hash::HashSeed;
 use crate::key::indices_in;
 use crate::memory::Memory;
 use crate::packed_key::PackedKey;

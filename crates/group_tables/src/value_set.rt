@@ -12,8 +12,8 @@ ghost use Rattle.group_tables.specs.Inside.Values.{values_in};
 ghost use Rattle.group_tables.specs.Inside.ValueSets.{shown};
 
 use crate::copy::copy_of;
-use crate::hashing::HashSeed;
-use crate::keyed::{Keyed, sort_keyed, things_of};
+use crate::hash::HashSeed;
+use crate::key_order::{Keyed, sort_keyed, things_of};
 use crate::memory::Memory;
 use sort_keys::{SortKey, put_value};
 use std::alloc::{AllocError, Global};

@@ -1,17 +1,17 @@
 //! What the program does, over any reader and writers.
 #![tactic(auto)]
 
-mod explaining;
-mod joining;
-mod parting;
-mod running;
-mod seeding;
-mod serving;
-mod writing;
+mod explain;
+mod join;
+mod partial;
+mod run;
+mod seed;
+mod serve;
+mod write;
 
-pub use joining::{join_partial, run_join};
-pub use parting::run_partial;
-pub use running::{run, run_alone};
+pub use join::{join_partial, run_join};
+pub use partial::run_partial;
+pub use run::{run, run_alone};
 pub use semantics::{Done, JoinFault, RunFault};
-pub use serving::serve;
-pub use writing::put;
+pub use serve::serve;
+pub use write::put;

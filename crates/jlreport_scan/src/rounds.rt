@@ -12,7 +12,7 @@ ghost use Rattle.semantics.specs.Limits.{input_limit};
 ghost use Rattle.pool.specs.Limits.{most_hands};
 
 use crate::fault::GatherFault;
-use crate::working::{RoundOutcome, Scan, check_limit, work_on_round};
+use crate::round::{RoundOutcome, Scan, check_limit, work_on_round};
 use lines::{Demand, ReadFault, Round, Rounds};
 use pool::{Book, Share};
 use query_plan::Plan;

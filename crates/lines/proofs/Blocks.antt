@@ -2,7 +2,7 @@
 use Rattle.std.proofs.Common.{◌≡◌, ◌<◌, ℕ, List, [], ◌∷◌, ◌++◌, length, Option, Some, None, refl, sym, ap, ◌∙◌, arith}
 use Rattle.std.specs.Prelude.{MatchOption}
 use Rattle.semantics.specs.Lines.{lines}
-use Rattle.lines.specs.declared.checking.Line.{Line}
+use Rattle.lines.specs.declared.utf8.Line.{Line}
 use Rattle.lines.specs.Checked.{line_bytes}
 use Rattle.lines.proofs.Splits.{lines-some}
 

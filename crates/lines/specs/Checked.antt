@@ -1,11 +1,11 @@
 -- Lines that come as texts or as bytes.
 use Rattle.std.specs.Prelude.{ℕ, List}
-use Rattle.lines.specs.declared.checking.Block.{Block}
-use Rattle.lines.specs.declared.checking.Block.TheVariants.{Texts}
-use Rattle.lines.specs.declared.checking.Line.{Line}
-use Rattle.lines.specs.declared.checking.Line.TheVariants.{Text}
-use Rattle.lines.specs.declared.checking.Block.TheVariants as block
-use Rattle.lines.specs.declared.checking.Line.TheVariants as line
+use Rattle.lines.specs.declared.utf8.Block.{Block}
+use Rattle.lines.specs.declared.utf8.Block.TheVariants.{Texts}
+use Rattle.lines.specs.declared.utf8.Line.{Line}
+use Rattle.lines.specs.declared.utf8.Line.TheVariants.{Text}
+use Rattle.lines.specs.declared.utf8.Block.TheVariants as block
+use Rattle.lines.specs.declared.utf8.Line.TheVariants as line
 
 -- the bytes of a line
 abbrev pub line_bytes : Line → List ℕ

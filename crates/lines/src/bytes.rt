@@ -7,8 +7,8 @@ ghost use Rattle.lines.specs.Inside.Members.{AreTaken};
 ghost use Rattle.semantics.specs.Records.{Fits, max_line_len, decode_line};
 
 mod members;
-mod naming;
-mod taking;
+mod name;
+mod member;
 
 use crate::columns::missing_values;
 use crate::spare::Spare;

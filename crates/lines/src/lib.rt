@@ -3,31 +3,31 @@
 #![tactic(auto)]
 
 mod bytes;
-mod checking;
+mod utf8;
 mod columns;
-mod cutting;
+mod cut;
 mod demand;
 mod fault;
 mod input;
 mod laws;
 mod line_buffer;
 mod pieces;
-mod reading;
+mod record_reader;
 mod rounds;
 mod source;
 mod spare;
-mod splitting;
+mod split;
 mod tokens;
 mod tree;
 
-pub use checking::{CheckedLines, Line, checked_lines_of};
-pub use cutting::cut;
+pub use utf8::{CheckedLines, Line, checked_lines_of};
+pub use cut::cut;
 pub use demand::Demand;
 pub use fault::ReadFault;
 pub use laws::{clip_law, front_law};
 pub use pieces::Piece;
-pub use reading::{RecordReader, read_record};
+pub use record_reader::{RecordReader, read_record};
 pub use rounds::{Round, Rounds};
 pub use semantics::{LineFault, LineRefusal};
-pub use splitting::{Lines, lines_of};
+pub use split::{Lines, lines_of};
 pub use tree::read_by_tree;

@@ -2,12 +2,12 @@
 ghost use Rattle.std.specs.Prelude.{◌≡◌, ◌≤◌, Ok, IfSome, length};
 ghost use Rattle.semantics.specs.Records.{Fits, max_line_len, decode_line};
 
-mod skipping;
-mod taking;
+mod skip;
+mod members;
 
 use crate::spare::Spare;
 use json::{Reader, Scratch, Token};
-use taking::take_members;
+use member::take_members;
 use values::{Record, Schema};
 
 /// Reads a line as a record by its tokens; `None` says nothing of the line. Out of line, since few lines come here.

@@ -6,7 +6,7 @@ ghost use Rattle.values.specs.Datum.{datum_of, data_of};
 ghost use Rattle.semantics.specs.Records.{Fits, IsRefusal, all_taken, data_taken, datum_taken, max_line_len, member_of, decode_line};
 ghost use Rattle.values.specs.Schema.{IsSchema, fields_of};
 
-use crate::reading::MAX_LINE_LEN;
+use crate::record_reader::MAX_LINE_LEN;
 use semantics::{LineFault, LineRefusal};
 use serde_json::{Map, Value as Json};
 use std::alloc::Global;

@@ -11,7 +11,7 @@ use crate::bytes::byte_at;
 /// The character that the escape means whose backslash stands before a place, and where the escape ends; `None` says
 /// nothing of the text.
 ///
-/// Example: of the text `"\n"` it answers a line feed and 3 at 2.
+/// Example: of the text `r#""\n""#` it answers a line feed and 3 at 2.
 #[inline(never)]
 pub(crate) fn escape_at(text: &[u8], at: usize) -> Option<(char, usize)>
     requires { at ≤ length text.now }

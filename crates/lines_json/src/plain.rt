@@ -22,7 +22,7 @@ pub fn is_plain(text: &[u8]) -> bool
 
 /// Where the plain text ends that may stand at a place: at the first quote, backslash or control byte, or at the end of the text.
 ///
-/// Example: of the text `"ab"` it answers 3 at 1.
+/// Example: of the text `r#""ab""#` it answers 3 at 1.
 #[inline(always)]
 pub(crate) fn plain_end(text: &[u8], from: usize) -> usize
     requires { from ≤ length text.now }

@@ -9,7 +9,7 @@ use crate::plain::plain_end;
 
 /// The place of the quote that closes a string whose first byte stands at a place; `None` says nothing of the text.
 ///
-/// Example: of the text `"a\n"` it answers 4 at 1.
+/// Example: of the text `r#""a\n""#` it answers 4 at 1.
 #[inline(always)]
 pub fn string_end(text: &[u8], from: usize) -> Option<usize>
     requires { from ≤ length text.now }
@@ -25,7 +25,7 @@ pub fn string_end(text: &[u8], from: usize) -> Option<usize>
 
 /// The same of a string without an escape.
 ///
-/// Example: of the text `"ab"` it answers 3 at 1, and of `"a\n"` it answers `None` there.
+/// Example: of the text `r#""ab""#` it answers 3 at 1, and of `r#""a\n""#` it answers `None` there.
 #[inline(always)]
 pub fn plain_string_end(text: &[u8], from: usize) -> Option<usize>
     requires { from ≤ length text.now }
@@ -59,7 +59,7 @@ fn escaped_string_end(text: &[u8], from: usize) -> Option<usize>
 /// Pushes the content of a string, each escape as what it means, behind what stands in `content`. The string's first byte
 /// stands at a place, and the place of the quote that closes it is answered; `None` says nothing of the text.
 ///
-/// Example: of the text `"a\n"` it pushes `a` and a line feed, and answers 4 at 1.
+/// Example: of the text `r#""a\n""#` it pushes `a` and a line feed, and answers 4 at 1.
 #[inline(never)]
 pub fn push_content(text: &str, from: usize, content: &mut String) -> Option<usize>
     requires { IsCharBoundary text.now from }

@@ -14,7 +14,7 @@ use Rattle.semantics.specs.declared.line_fault.LineFault.{LineFault}
 use Rattle.tables.specs.Contents.{DiffersInGroups, HasRefusals}
 use Rattle.tables.specs.States.{PartialState}
 use Rattle.parts.specs.Inside.Gathering.{contents_of, first_refused, groups_of, refused_in}
-use Rattle.parts.specs.declared.gathering.Gathering.{Gathering}
+use Rattle.parts.specs.declared.gather.Gathering.{Gathering}
 
 -- ---- what a hasher was given
 

@@ -9,7 +9,7 @@ ghost use Rattle.semantics.specs.Parts.{with_checksum};
 ghost use Rattle.parts.specs.ReadingParts.{checksum_at};
 
 use crate::texts::next_text;
-use crate::writing::push_text;
+use crate::write::push_text;
 use part_lines::{PartRefusal, ValueReader, check, push_group};
 use semantics::PartsFaultKind;
 use sha2::{Digest, Sha256};

@@ -11,10 +11,10 @@ ghost use Rattle.parts.specs.ReadingParts.{can_have, contents_at, group_count_at
 ghost use Rattle.semantics.specs.Limits.{input_limit};
 
 use crate::checksum::TextHasher;
-use crate::gathering::Gathering;
+use crate::gather::Gathering;
 use crate::groups::next_groups;
-use crate::refused::next_refused;
-use crate::writing::{Header, front_text};
+use crate::refused_lines::next_refused;
+use crate::write::{Header, front_text};
 use lines::LineFault;
 use part_lines::{GroupShape, PartRefusal, ValueReader, check, next_count};
 use query_plan::Plan;

@@ -8,7 +8,7 @@ ghost use Rattle.parts.specs.Inside.Hashing.{HoldsText};
 ghost use Rattle.parts.specs.Inside.Gathering.{IsGathering, groups_of};
 ghost use Rattle.parts.specs.ReadingParts.{shape_under};
 
-use crate::gathering::Gathering;
+use crate::gather::Gathering;
 use part_lines::{GroupShape, PartRefusal, ValueReader, next_group};
 use query_plan::Plan;
 use std::alloc::Global;

@@ -11,9 +11,9 @@ ghost use Rattle.semantics.specs.Limits.{input_limit};
 
 use crate::checksum::next_checksum;
 use crate::contents::next_contents;
-use crate::gathering::Gathering;
+use crate::gather::Gathering;
 use crate::header::next_header;
-use crate::writing::Header;
+use crate::write::Header;
 use part_lines::{GroupShape, PartRefusal, ValueReader};
 use query_plan::Plan;
 use std::alloc::Global;

@@ -4,7 +4,7 @@ ghost use Rattle.tables.specs.Partials.{StandsForInput};
 ghost use Rattle.semantics.specs.Parts.{part_text};
 
 use crate::checksum::with_checksum;
-use crate::writing::{front_text, header_of};
+use crate::write::{front_text, header_of};
 use part_lines::push_groups;
 use query_plan::Plan;
 use std::alloc::{AllocError, Global};

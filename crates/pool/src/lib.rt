@@ -19,8 +19,8 @@
 
 mod book;
 mod deal;
-mod dealing;
-mod growing;
+mod seats;
+mod grow;
 mod laws;
 mod protocol;
 mod single;
@@ -31,7 +31,7 @@ mod worker;
 
 pub use book::{Book, Share};
 pub use deal::{Hand, Next, run_law, settled};
-pub use dealing::{Deal, dealing_law};
+pub use seats::{Deal, dealing_law};
 pub use laws::{Outcome, PoolFault, Work};
 pub use protocol::{Dealing, deque_law};
 pub use single::alone;

@@ -18,8 +18,8 @@ ghost use Rattle.pool.specs.Limits.{load_limit, most_pieces, most_hands};
 
 use crate::book::{Book, Share};
 use crate::deal::{Hand, compare_all};
-use crate::dealing::Deal;
-use crate::growing::put_last;
+use crate::seats::Deal;
+use crate::grow::put_last;
 use crate::laws::{Outcome, PoolFault, Work};
 use crate::worker::{Crew, Progress, go_on, start};
 use std::alloc::{AllocError, Global};

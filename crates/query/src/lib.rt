@@ -8,12 +8,12 @@
 #![tactic(auto)]
 
 mod laws;
-mod parsing;
-mod printing;
+mod parse;
+mod print;
 
 pub use laws::{derives_one, derives_or_refused, reads_again};
-pub use parsing::parse;
-pub use printing::print;
+pub use parse::parse;
+pub use print::print;
 pub use query_ast::{
     Aggregate, Expression, GroupingElement, Item, Key, Literal, Operand, Predicate, SetFunction,
     Text, Tree,

@@ -8,7 +8,7 @@ ghost use Rattle.semantics.specs.Leaves.{language_limits};
 
 use crate::fault::GrammarFault;
 use crate::fronts::{after_word, unexpected_fault};
-use crate::keeping::keep;
+use crate::keep::keep;
 use crate::literals::in_list;
 use crate::operators::{mark, truth_value};
 use query_ast::{Expression, Operand, Predicate};

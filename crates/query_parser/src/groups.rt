@@ -12,7 +12,7 @@ ghost use Rattle.semantics.specs.Leaves.{language_limits};
 
 use crate::fault::GrammarFault;
 use crate::fronts::{after_sign, after_word, expect_sign, expect_word};
-use crate::keeping::keep;
+use crate::keep::keep;
 use crate::units::{set, units};
 use query_ast::GroupingElement;
 use query_lexer::{Sign, Token, Word};

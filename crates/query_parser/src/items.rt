@@ -9,7 +9,7 @@ ghost use Rattle.semantics.specs.Leaves.{language_limits};
 use crate::expressions::begins_expression;
 use crate::fault::GrammarFault;
 use crate::fronts::{after_word, expect_name};
-use crate::keeping::keep;
+use crate::keep::keep;
 use crate::lists::{Listed, more_parts};
 use crate::predicates::{MAX_LEVELS, expression};
 use query_ast::{Item, Text};

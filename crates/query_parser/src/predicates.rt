@@ -17,7 +17,7 @@ use crate::atoms::{column, member, null_or_truth_test, optional_truth_test};
 use crate::fault::GrammarFault;
 use crate::fronts::{after_sign, after_word, expect_sign, expect_word, name};
 use crate::functions::aggregate;
-use crate::keeping::keep;
+use crate::keep::keep;
 use crate::literals::literal;
 use crate::operators::operator;
 use query_ast::{Expression, Operand, Predicate, SetFunction};

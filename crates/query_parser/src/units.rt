@@ -9,7 +9,7 @@ ghost use Rattle.query_parser.specs.Inside.GroupSteps.{unit_at, units_at, nothin
 use crate::arguments::Names;
 use crate::fault::GrammarFault;
 use crate::fronts::{after_sign, expect_name, expect_sign, name};
-use crate::keeping::keep;
+use crate::keep::keep;
 use crate::lists::{Listed, more_parts};
 use query_ast::Text;
 use query_lexer::{Sign, Token};

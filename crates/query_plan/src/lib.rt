@@ -2,16 +2,16 @@
 //! its headers and the texts of its grouping sets.
 #![tactic(auto)]
 
-mod checking;
-mod holding;
+mod check;
+mod holds;
 mod plan;
-mod printing;
+mod print;
 mod query;
 
-pub use checking::check;
-pub use holding::{filter_holds, holds};
+pub use check::check;
+pub use holds::{filter_holds, holds};
 pub use plan::Plan;
-pub use printing::{filter_texts, header, set_text};
+pub use print::{filter_texts, header, set_text};
 pub use query::Query;
 pub use query_ast::{
     Aggregate, Expression, GroupingElement, Item, Key, Literal, Operand, Predicate, SetFunction,

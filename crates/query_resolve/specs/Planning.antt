@@ -5,7 +5,7 @@ use Rattle.std.specs.Option.{option_map}
 use Rattle.query_ast.specs.declared.expression.Predicate.{Predicate}
 use Rattle.semantics.specs.Syntax as syntax
 use Rattle.query_ast.specs.Syntax.{predicate_form}
-use Rattle.query_resolve.specs.declared.planning.Planned.{Planned}
+use Rattle.query_resolve.specs.declared.plan.Planned.{Planned}
 use Rattle.semantics.specs.Names.{PlannedFunction}
 
 -- Filters behind references.

@@ -7,8 +7,8 @@ ghost use Rattle.semantics.specs.Names.{distinct, places_of};
 ghost use Rattle.semantics.specs.Sets.{group_sets, ordered_set, same_columns};
 ghost use Rattle.query_resolve.specs.Resolution.{contents, ordered_expansion};
 
-use crate::grouping::push_places;
-use crate::joining::{cube, one_set, ordered_set, ordered_sets, rollup};
+use crate::grouping_columns::push_places;
+use crate::union::{cube, one_set, ordered_set, ordered_sets, rollup};
 use crate::product::Product;
 use crate::repeats::apply_distinct;
 use query_ast::{GroupingElement, Text};

@@ -4,24 +4,24 @@
 #![tactic(auto)]
 
 mod columns;
-mod counting;
+mod count;
 mod expansion;
 mod function;
-mod grouping;
-mod joining;
+mod grouping_columns;
+mod union;
 mod laws;
-mod planning;
+mod plan;
 mod product;
 mod repeats;
 
 pub use columns::{column_kind, place_of};
-pub use counting::set_count;
+pub use count::set_count;
 pub use expansion::grouping_sets;
 pub use function::{FilteredFunction, column_function};
-pub use grouping::grouping_places;
+pub use grouping_columns::grouping_places;
 pub use laws::{
     cross_product_law, cube_law, distinct_law, kept_law, rollup_law, same_function_law,
     same_predicate_law, shown_law,
 };
-pub use planning::{Planned, filters, indexed_functions, planned_functions, planned_place};
+pub use plan::{Planned, filters, indexed_functions, planned_functions, planned_place};
 pub use semantics::ColumnFunction;

@@ -4,7 +4,7 @@ ghost use Rattle.std.specs.Prelude.{◌≡◌, ◌∷◌, [], map, IfOk, OnOk};
 ghost use Rattle.semantics.specs.Sets.{cross_product, ordered_set};
 ghost use Rattle.query_resolve.specs.Resolution.{contents};
 
-use crate::joining::{cross_product, one_set, ordered_set, ordered_sets};
+use crate::union::{cross_product, one_set, ordered_set, ordered_sets};
 use std::alloc::{AllocError, Global};
 use std::marker::Model;
 

@@ -5,7 +5,7 @@ mod laws;
 mod names;
 mod resolution;
 mod scope;
-mod typing;
+mod types;
 
 pub use laws::{filters_law, first_fault_law, typed_law};
 pub use resolution::{Resolved, check_tree, key_expression};

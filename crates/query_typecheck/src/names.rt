@@ -7,7 +7,7 @@ ghost use Rattle.query_ast.specs.Syntax.{element_form, units_form};
 ghost use Rattle.semantics.specs.Names.{group_names};
 ghost use Rattle.query_typecheck.specs.FirstFaults.{Answers, column_fault, first_fault};
 
-use crate::typing::check_column;
+use crate::types::check_column;
 use query_ast::{GroupingElement, Text};
 use semantics::QueryFault;
 use values::Column;

@@ -20,7 +20,7 @@ ghost use Rattle.semantics.specs.Limits.{most_grouping_sets};
 
 use crate::names::check_groups;
 use crate::scope::{Clause, ClauseScope};
-use crate::typing::{check_expression, check_predicate};
+use crate::types::{check_expression, check_predicate};
 use query_ast::{Expression, GroupingElement, Item, Key, Predicate, Text, Tree};
 use query_printer::header;
 use query_resolve::{

@@ -4,14 +4,14 @@
 //! the rows (`Order`). It knows nothing of where groups come from, nor of the bytes of a report.
 #![tactic(auto)]
 
-mod arranging;
+mod arrange;
 mod cells;
-mod coded;
+mod telling_keys;
 mod coded_key;
 mod having;
 mod keys;
 mod laws;
-mod ordering;
+mod order;
 mod parts;
 mod row;
 mod row_scope;
@@ -19,7 +19,7 @@ mod sort_entry;
 mod source;
 mod view;
 
-pub use arranging::{arranged_rows, shown_groups};
+pub use arrange::{arranged_rows, shown_groups};
 pub use laws::{arranged_law, order_law};
 pub use parts::part_len;
 pub use row::ReportRow;

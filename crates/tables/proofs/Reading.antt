@@ -20,7 +20,7 @@ use Rattle.group_tables.proofs.GroupsLaw.{table-is}
 use Rattle.group_tables.proofs.Joint.{table_of-append}
 use Rattle.tables.specs.Laws.{kept-append}
 use Rattle.tables.specs.Partials.{of_pieces, whole_piece}
-use Rattle.tables.specs.declared.folding.Folding.{Folding}
+use Rattle.tables.specs.declared.fold.Folding.{Folding}
 use Rattle.tables.specs.Inside.Folding.{HasRead}
 use Rattle.tables.specs.Folding.{valid_records_of, refused_lines_of}
 use Rattle.query_plan.specs.Planned.{PlannedQuery}

@@ -18,8 +18,8 @@ use Rattle.group_tables.specs.Rolled.{AreAmong}
 use Rattle.group_tables.specs.Table.{AreGroupsOfTable, Contents, IsRollOf, KeepsCount}
 use Rattle.group_tables.specs.Typed.{HaveTypesOfTable, KeepsTypes}
 use Rattle.query_resolve.specs.declared.function.FilteredFunction.{FilteredFunction}
-use Rattle.tables.specs.declared.rolling.Roll.{Roll}
-use Rattle.tables.specs.declared.rolling.SetTable.{SetTable}
+use Rattle.tables.specs.declared.roll.Roll.{Roll}
+use Rattle.tables.specs.declared.roll.SetTable.{SetTable}
 use Rattle.tables.specs.Inside.Properties.{AreGroupsWith, HasProperty, Property, of_at_most, of_records, of_types}
 use Rattle.tables.specs.Inside.SetTables.{AreRolled}
 use Rattle.tables.specs.Inside.SetTables.{HasFiner, ListedSet, NoneHasIndex, StandsAtIndex, listed_roll, listed_table, sets_of_rolls, sets_of_tables}

@@ -11,8 +11,8 @@ use Rattle.query_resolve.specs.declared.function.FilteredFunction.{FilteredFunct
 use Rattle.group_tables.specs.declared.group.Group.{Group}
 use Rattle.group_tables.specs.Rolled.{AreAmong}
 use Rattle.group_tables.specs.Table.{Contents}
-use Rattle.tables.specs.declared.rolling.Roll.{Roll}
-use Rattle.tables.specs.declared.rolling.SetTable.{SetTable}
+use Rattle.tables.specs.declared.roll.Roll.{Roll}
+use Rattle.tables.specs.declared.roll.SetTable.{SetTable}
 use Rattle.tables.specs.Inside.Properties.{AreGroupsOf, AreGroupsWith, HasProperty, Property}
 use Rattle.tables.specs.Inside.SetTables.{AreRollsOf, HasFiner, HasGroupsOf, HaveFiner, HaveProperty, KeepsOthers, ListedSet, NoneHasIndex, StandsAtIndex, listed_roll, listed_table, sets_of_rolls, sets_of_tables}
 use Rattle.tables.proofs.SetTables.{WaitsOn, all-first, all-from_contents, all-last, all-second, all-unmap}

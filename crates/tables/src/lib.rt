@@ -4,22 +4,22 @@
 #![tactic(auto)]
 
 mod contents;
-mod folding;
-mod grouped;
+mod fold;
+mod groups;
 mod job;
-mod joining;
+mod merge;
 mod laws;
-mod numbering;
+mod numbers;
 mod partial;
 mod piece_refusals;
 mod refusals;
-mod rolling;
+mod roll;
 mod rows;
 mod shape;
 
 pub use contents::PartialContents;
 pub use group_tables::{Cell, Executor, Group, HashSeed, Parallel, Serial};
-pub use grouped::Groups;
+pub use groups::Groups;
 pub use job::{Job, JobBy};
 pub use laws::{
     contents_law, job_law, members_law, monoid_law, one_piece_law, order_law, pieces_law,

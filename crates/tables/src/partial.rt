@@ -8,11 +8,11 @@ ghost use Rattle.group_tables.specs.Table.{IsCounted};
 ghost use Rattle.semantics.specs.Limits.{input_limit};
 
 use crate::contents::PartialContents;
-use crate::folding::{Folding, empty_table, piece_table, read_onto};
-use crate::grouped::Groups;
-use crate::joining::merge_tables;
+use crate::fold::{Folding, empty_table, piece_table, read_onto};
+use crate::groups::Groups;
+use crate::merge::merge_tables;
 use crate::laws::members_law;
-use crate::numbering::{gather, gather_behind, number};
+use crate::numbers::{gather, gather_behind, number};
 use crate::piece_refusals::PieceRefusals;
 use crate::refusals::Refusals;
 use crate::rows::rows_of;

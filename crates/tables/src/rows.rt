@@ -11,7 +11,7 @@ ghost use Rattle.tables.specs.Planned.{AreFittingUnder};
 ghost use Rattle.tables.specs.Sound.{IsTypedTableUnder};
 ghost use Rattle.semantics.specs.ResultRows.{rows_before_having};
 
-use crate::rolling::groups_of_sets;
+use crate::roll::groups_of_sets;
 use group_tables::{Executor, Group, Table};
 use query_plan::Plan;
 use std::alloc::{AllocError, Global};

@@ -1,5 +1,5 @@
 //! A module for each library.
 
-mod grouping;
+mod groups;
 mod reports;
 mod resolution;

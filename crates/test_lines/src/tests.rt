@@ -1,5 +1,5 @@
 //! Schemas and values, the lines of pieces as records, and inputs in rounds.
 
-mod reading;
+mod records;
 mod rounds;
 mod schemas;

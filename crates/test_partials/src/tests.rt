@@ -1,8 +1,8 @@
 //! A module for each subject.
 
 mod contents;
-mod following;
-mod joining;
+mod follow;
+mod merge;
 mod partials;
 mod reference;
-mod rolling;
+mod roll;

@@ -1,11 +1,11 @@
 //! A module for each subject.
 
-mod joining;
+mod joins;
 mod memory;
 mod results;
 mod rounds;
-mod running;
-mod serving;
+mod runs;
+mod serve;
 mod streams;
 mod words;
-mod writing;
+mod outputs;

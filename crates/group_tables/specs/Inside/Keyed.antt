@@ -10,7 +10,7 @@ use Rattle.sort_keys.specs.Codes.{value_code, values_code}
 use Rattle.sort_keys.specs.SortKeys.{SortParts, key_parts, parts_of, parts_order}
 use Rattle.values.specs.Datum.{datum_of}
 use Rattle.values.specs.declared.value.Value.{Value}
-use Rattle.group_tables.specs.declared.keyed.Keyed.{Keyed}
+use Rattle.group_tables.specs.declared.key_order.Keyed.{Keyed}
 use Rattle.group_tables.specs.declared.packed_key.PackedKey.{PackedKey}
 use Rattle.group_tables.specs.Entries.{entry_at}
 use Rattle.group_tables.specs.Group.{GroupState}

@@ -4,8 +4,8 @@ ghost use Rattle.serde_json.specs.Data.{no_members};
 ghost use Rattle.values.specs.Schema.{IsSchema, fields_of};
 ghost use Rattle.lines.specs.Inside.Members.{AreMembersAt, AreTaken, IsMemberAt};
 
-use crate::bytes::naming::name_at;
-use crate::bytes::taking::value_at;
+use crate::bytes::name::name_at;
+use crate::bytes::member::value_at;
 use crate::columns::{MEMBER_DEPTH, place_found_from, put_at};
 use crate::spare::Spare;
 use lines_json::{byte_at, space_end, value_end};

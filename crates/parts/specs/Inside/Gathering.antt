@@ -13,7 +13,7 @@ use Rattle.tables.specs.Notes.{Noted}
 use Rattle.tables.specs.Sound.{IsSoundUnder}
 use Rattle.tables.specs.States.{PartialState}
 use Rattle.group_tables.specs.Entries.{IsBehind, IsEntryFor}
-use Rattle.parts.specs.declared.gathering.Gathering.{Gathering}
+use Rattle.parts.specs.declared.gather.Gathering.{Gathering}
 
 -- the key of a group
 abbrev pub key_of : GroupEntry → Key

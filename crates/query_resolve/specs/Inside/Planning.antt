@@ -3,7 +3,7 @@ use Rattle.std.specs.Prelude.{◌≡◌, List, ◌++◌}
 use Rattle.std.specs.List.{filter_map}
 use Rattle.semantics.specs.Columns.{Field}
 use Rattle.semantics.specs.Syntax.{SetFunction}
-use Rattle.query_resolve.specs.declared.planning.Planned.{Planned}
+use Rattle.query_resolve.specs.declared.plan.Planned.{Planned}
 use Rattle.semantics.specs.Names.{planned_function}
 use Rattle.query_resolve.specs.Planning.{planned_forms}
 

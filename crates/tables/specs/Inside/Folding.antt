@@ -7,7 +7,7 @@ use Rattle.semantics.specs.Groups.{Record}
 use Rattle.group_tables.specs.Table.{Contents, IsTableOf, TakesOne}
 use Rattle.query_plan.specs.Planned.{PlannedQuery}
 use Rattle.semantics.specs.ResultRows.{aggregate_functions}
-use Rattle.tables.specs.declared.folding.Folding.{Folding}
+use Rattle.tables.specs.declared.fold.Folding.{Folding}
 use Rattle.tables.specs.Folding.{valid_records_of, refused_lines_of}
 
 -- behind the records of earlier pieces these lines have been read

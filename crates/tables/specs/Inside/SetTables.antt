@@ -6,8 +6,8 @@ use Rattle.query_resolve.specs.declared.function.FilteredFunction.{FilteredFunct
 use Rattle.group_tables.specs.declared.group.Group.{Group}
 use Rattle.group_tables.specs.Rolled.{AreAmong}
 use Rattle.group_tables.specs.Table.{Contents}
-use Rattle.tables.specs.declared.rolling.Roll.{Roll}
-use Rattle.tables.specs.declared.rolling.SetTable.{SetTable}
+use Rattle.tables.specs.declared.roll.Roll.{Roll}
+use Rattle.tables.specs.declared.roll.SetTable.{SetTable}
 use Rattle.tables.specs.Inside.Properties.{AreGroupsOf, AreGroupsWith, HasProperty, Property}
 
 -- each table has a property, under its set

@@ -1,5 +1,5 @@
 //! The result over an input, gathered without writing it: with ample memory, and with memory refused.
-use super::running::{BY_D, By, COUNT, THREE, make_plan, plan_if_any};
+use super::runs::{BY_D, By, COUNT, THREE, make_plan, plan_if_any};
 use jlreport_cli::Options;
 use jlreport_scan::{GatherFault, gather, gather_alone};
 use query::Plan;

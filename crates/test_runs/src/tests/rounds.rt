@@ -1,6 +1,6 @@
 //! Runs that read their input in several rounds write what they write of one round: the numbers of lines run on, and
 //! the limit of refused lines is one limit for all rounds.
-use super::running::{
+use super::runs::{
     BY_D, By, Case, LEAST_ROUND, assert_done, assert_run_or_refused, assert_too_many, make_plan,
 };
 use super::streams::{Pause, PauseReader};

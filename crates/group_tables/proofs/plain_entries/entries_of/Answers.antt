@@ -2,7 +2,7 @@ use Rattle.std.proofs.Common.{◌≡◌, Vec, Global, map, refl, ap, ◌∙◌}
 use Rattle.std.proofs.lemmas.Result.{IfOk-weaker}
 use Rattle.values.specs.GroupStates.{entries_of}
 use Rattle.values.specs.declared.group_entry.GroupEntry.{GroupEntry}
-use Rattle.group_tables.specs.declared.keyed.Keyed.{Keyed}
+use Rattle.group_tables.specs.declared.key_order.Keyed.{Keyed}
 use Rattle.group_tables.specs.Shards.{all_entries, contents_of_shards}
 use Rattle.group_tables.proofs.Listing.{listed}
 use Rattle.group_tables.proofs.Shards.{distinct-all}

@@ -5,7 +5,7 @@ use Rattle.sort_keys.specs.Codes.{IsCodable, value_code}
 use Rattle.sort_keys.specs.SortKeys.{parts_of}
 use Rattle.values.specs.Datum.{data_of, datum_of}
 use Rattle.values.specs.declared.value.Value.{Value}
-use Rattle.group_tables.specs.declared.keyed.Keyed.{Keyed}
+use Rattle.group_tables.specs.declared.key_order.Keyed.{Keyed}
 use Rattle.group_tables.specs.Inside.Keyed.{keyed_datum, keyed_value}
 use Rattle.group_tables.proofs.Moved.{one-more}
 use Rattle.group_tables.proofs.Sets.{data-distinct}

@@ -2,7 +2,7 @@ use Rattle.std.proofs.Common.{◌≡◌, Vec, Global, ap, map, ◌∙◌}
 use Rattle.std.proofs.lemmas.Result.{IfOk-weaker}
 use Rattle.values.specs.Datum.{data_of}
 use Rattle.values.specs.declared.value.Value.{Value}
-use Rattle.group_tables.specs.declared.keyed.Keyed.{Keyed}
+use Rattle.group_tables.specs.declared.key_order.Keyed.{Keyed}
 use Rattle.group_tables.proofs.SetListing.{values-listed}
 use Rattle.group_tables.proofs.value_set.sorted_values.Goals as goal
 

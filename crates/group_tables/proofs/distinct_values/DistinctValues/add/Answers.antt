@@ -8,8 +8,8 @@ use Rattle.group_tables.specs.Inside.ValueSets.{shown}
 use Rattle.group_tables.proofs.Sets.{union-absent, union-present}
 use Rattle.group_tables.proofs.distinct_values.DistinctValues.add.Goals as goal
 
-pub returns-then-not-is_present : goal.returns-then-not-is_present
-returns-then-not-is_present c =
+pub returns-then-not-is_non_null : goal.returns-then-not-is_non_null
+returns-then-not-is_non_null c =
     let absent : is_non_null (datum_of c.args.value.now) ≡ false = cc in
     sym (union-absent c.args.self.now (datum_of c.args.value.now) absent)
 

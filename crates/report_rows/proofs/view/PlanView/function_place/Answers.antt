@@ -4,7 +4,7 @@ use Rattle.std.specs.Coded.{Coded-set, coded_option, coded_ℕ}
 use Rattle.std.specs.Option.{option_and_then}
 use Rattle.semantics.specs.Columns.{Field}
 use Rattle.values.specs.Schema.{fields_of}
-use Rattle.query_resolve.specs.declared.planning.Planned.{Planned}
+use Rattle.query_resolve.specs.declared.plan.Planned.{Planned}
 use Rattle.query_ast.specs.Syntax.{function_form}
 use Rattle.semantics.specs.Names.{PlannedFunction, planned_function}
 use Rattle.semantics.specs.SetFunctions.{functions_of, place_among}

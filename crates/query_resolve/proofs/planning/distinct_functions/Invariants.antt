@@ -1,8 +1,0 @@
-use Rattle.std.proofs.Common.{◌≡◌, take}
-use Rattle.semantics.specs.Names.{distinct}
-use Rattle.semantics.specs.Inside.Same.{same_planned}
-use Rattle.query_resolve.specs.Planning.{planned_forms}
-use Rattle.query_resolve.proofs.planning.distinct_functions.Given as goal
-
-abbrev pub invariant-loop-function : goal.invariant-loop-function
-invariant-loop-function l = planned_forms l.found.items ≡ distinct same_planned (take l.function-index (planned_forms l.functions))

@@ -1,8 +1,0 @@
-use Rattle.std.proofs.Common.{◌≡◌, ◌++◌, map}
-use Rattle.report_rows.specs.Inside.SortEntries.{entry_form}
-use Rattle.report_rows.proofs.Rows.{row_at}
-use Rattle.report_rows.proofs.ordering.groups_at.Given as goal
-
--- the groups so far, and then those that are left
-abbrev pub invariant-loop-row : goal.invariant-loop-row
-invariant-loop-row l = map row_at l.groups.items ++ map (λ r. (entry_form r.now).1) l.row-iterator.rest.items ≡ map (λ r. (entry_form r.now).1) l.fn.rows.items
