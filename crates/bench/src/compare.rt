@@ -1,9 +1,10 @@
-//! Reads each line of a file as a record in every way, by its bytes, by its tokens and by its JSON tree, and prints how
-//! many lines there are, how many are records, how many the bytes alone answered and how many the tokens alone, and how
-//! many one of the ways read otherwise than the tree.
+//! Reads each line of a file as a record in every way, by its bytes, by its tokens and by its JSON
+//! tree, and prints how many lines there are, how many are records, how many the bytes alone
+//! answered and how many the tokens alone, and how many one of the ways read otherwise than the
+//! tree.
 //!
-//! Example: under `d:text,q:int`, of a file of the lines `{"d":"x","r":"n","q":5}` and `[1]`, it prints
-//! `2 lines, 1 records, 1 by their bytes alone, 1 by their tokens alone, 0 different`.
+//! Example: under `d:text,q:int`, of a file of the lines `{"d":"x","r":"n","q":5}` and `[1]`, it
+//! prints `2 lines, 1 records, 1 by their bytes alone, 1 by their tokens alone, 0 different`.
 
 use lines::{LineRefusal, RecordReader, lines_of, read_by_tree};
 use std::alloc::Global;
@@ -73,7 +74,8 @@ fn counts_of(alloc: Global, schema: &Schema, bytes: &[u8]) -> Counts {
     counts
 }
 
-/// Compares the three ways on the lines of the file at a path, under columns. Where these are refused, it prints nothing.
+/// Compares the three ways on the lines of the file at a path, under columns. Where these are
+/// refused, it prints nothing.
 pub fn run<R: Files + Print + AllocGlobal>(rt: &R, columns: &str, path: &str) -> io::Result<()> {
     let Ok(schema) = Schema::parse(rt.alloc(), columns) else {
         return Ok(());

@@ -1,9 +1,10 @@
-//! Times parts apart from the lines that they are of: makes one result of the pieces of a file, writes its part, and
-//! reads that again. It prints how many lines there are, how many of them are refused, and how many bytes the part has;
-//! and on standard error the nanoseconds of the writing, and those of the reading.
+//! Times parts apart from the lines that they are of: makes one result of the pieces of a file,
+//! writes its part, and reads that again. It prints how many lines there are, how many of them are
+//! refused, and how many bytes the part has; and on standard error the nanoseconds of the writing,
+//! and those of the reading.
 //!
-//! Example: under `d:text,q:int`, by the query `SELECT d, SUM(q) AS s FROM lines GROUP BY d`, over the lines
-//! `{"d":"x","q":5}` and `[1]`, it prints `2 lines, 1 refused, 180 bytes`.
+//! Example: under `d:text,q:int`, by the query `SELECT d, SUM(q) AS s FROM lines GROUP BY d`, over
+//! the lines `{"d":"x","q":5}` and `[1]`, it prints `2 lines, 1 refused, 180 bytes`.
 
 ghost use Rattle.std.specs.Prelude.{◌≤◌, ◌<◌, length};
 ghost use Rattle.semantics.specs.Limits.{input_limit};
@@ -22,7 +23,8 @@ use std::time::{Clock, Instant};
 use std::{fs, io};
 use tables::{HashSeed, Parallel};
 
-/// Makes the result of an input, writes and reads its part, and prints what came of it and how long it took.
+/// Makes the result of an input, writes and reads its part, and prints what came of it and how long
+/// it took.
 fn work<R: Threads + Wait + Clock + Print + Eprint + Sync>(
     rt: &R,
     alloc: Global,
@@ -60,8 +62,8 @@ fn work<R: Threads + Wait + Clock + Print + Eprint + Sync>(
     eprintln!(rt; "{written} {read}")
 }
 
-/// Times this for the file at a path, by a query over columns and as many hands as the word means. Where the query or the
-/// columns are refused, it prints nothing.
+/// Times this for the file at a path, by a query over columns and as many hands as the word means.
+/// Where the query or the columns are refused, it prints nothing.
 pub fn run<R: Threads + Wait + Clock + Files + Print + Eprint + AllocGlobal + Sync>(
     rt: &R,
     columns: &str,

@@ -1,4 +1,5 @@
-//! The result over an input that is held whole: of its pieces, of 1,048,576 bytes or more, by 1 to 64 threads.
+//! The result over an input that is held whole: of its pieces, of 1,048,576 bytes or more, by 1 to
+//! 64 threads.
 
 ghost use Rattle.std.specs.Prelude.{◌≤◌, ◌<◌, IfSome, length};
 ghost use Rattle.tables.specs.Partials.{IsPartialOf};

@@ -1,6 +1,6 @@
-//! Answers one query over the bytes of a file, whose name is its word, by calls of the libraries: on the calling thread
-//! alone, and then by four workers. Each run writes its report to standard output, and its list of refused lines to
-//! standard error.
+//! Answers one query over the bytes of a file, whose name is its word, by calls of the libraries:
+//! on the calling thread alone, and then by four workers. Each run writes its report to standard
+//! output, and its list of refused lines to standard error.
 #![tactic(auto)]
 
 use anyhow::Context;

@@ -122,8 +122,8 @@ members-parts functions false o part h = h
 
 -- ---- a table that takes the parts of entries, one after the other
 
--- with the records of the entries that are left the groups of a table have no more than so many, and each group has one
--- accumulator for each function
+-- with the records of the entries that are left the groups of a table have no more than so many,
+-- and each group has one accumulator for each function
 pub record IsCountedWith (most : ℕ) (functions : List FilteredFunction) (table : Contents) (left : Entries) : Type 0 where
   pub lines : (ks : List Key) → IsDistinct same_key ks → sum_by (lines_at table) ks + entry_lines left ≤ most
   pub parts : (k : Key) → HasParts functions (fin.get table k)

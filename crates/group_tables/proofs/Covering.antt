@@ -103,7 +103,8 @@ pub own-key : (set : List ℕ) (q : Key) (rows : List Record) → list_any (same
 own-key [] q rows h = only_empty q rows h
 own-key (p ∷ ps) q rows h = any-key q (map (project (p ∷ ps)) rows) ∙ h
 
--- the members of different keys, among which are those of all records, are the records, each as often
+-- the members of different keys, among which are those of all records, are the records, each as
+-- often
 pub spread-bag : (set : List ℕ) (ks : List Key) → IsDistinct same_key ks → (rows : List Record)
     → ((q : Key) → list_any (same_key q) (map (project set) rows) ≡ true → list_any (same_key q) ks ≡ true) → SameBag (spread set rows ks) rows
 spread-bag set ks d rows h w = covered w set ks d rows h

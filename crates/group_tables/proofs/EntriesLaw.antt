@@ -110,7 +110,8 @@ all-got : (t : Contents) (fs : List (Key × GroupState)) → AllByRecursion (λ 
 all-got t [] all = tt
 all-got t (f ∷ fs) all = (fin.get-entries t f.0 ∙ all.0, all-got t fs all.1)
 
--- a table of the types of columns and set functions that has the list of some records' groups is that of these
+-- a table of the types of columns and set functions that has the list of some records' groups is
+-- that of these
 pub is-table : (fields : List Field) (set : List ℕ) (functions : List FilteredFunction) (filters : List (Record → Bool)) (t : Contents) (rows : List Record)
     → IsTypedTable fields set functions t → table_entries t ≡ entries_over set (aggregates_of filters functions) rows → IsTableUnder set functions filters t rows
 is-table fields set functions filters t rows typed is q =

@@ -116,7 +116,8 @@ greatest_truth_value = refl
 different_truth_values : agg (all (function.CountDistinct 1)) both ≡ plain (whole (pos 2))
 different_truth_values = refl
 
--- the order of the columns of a set is that of its list, and NULL in one column is not NULL in the other
+-- the order of the columns of a set is that of its list, and NULL in one column is not NULL in the
+-- other
 turned_keys : keys (1 ∷ 0 ∷ []) ((text (codes "a") ∷ null ∷ []) ∷ (null ∷ text (codes "a") ∷ []) ∷ (null ∷ null ∷ []) ∷ [])
     ≡ (null ∷ text (codes "a") ∷ []) ∷ (text (codes "a") ∷ null ∷ []) ∷ (null ∷ null ∷ []) ∷ []
 turned_keys = refl

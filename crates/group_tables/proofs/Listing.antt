@@ -31,7 +31,8 @@ use Rattle.group_tables.proofs.Rolling.{get-each}
 
 -- ---- the entries of a table
 
--- a list whose keys ascend, and in which each key is found that the table has, with the same group, is that of the table's entries
+-- a list whose keys ascend, and in which each key is found that the table has, with the same group,
+-- is that of the table's entries
 pub in-order : (t : Contents) (es : List (Key × GroupState)) → IsStrictlySortedBy key_order (map (λ e. e.0) es) → ((k : Key) → fin.find key_order k es ≡ fin.get t k) → es ≡ fin.entries t
 in-order t es s answers =
     let h = map-sorted key_order es s in

@@ -41,7 +41,8 @@ moved {A} f xs zs p =
 abbrev pub key_beside : {T : Type 0} → Keyed T → SortParts
 key_beside k = key_parts k.key
 
--- Things that are moved show what they showed, moved: beside each stands the sort key of what it shows.
+-- Things that are moved show what they showed, moved: beside each stands the sort key of what it
+-- shows.
 pub record AreMoved {T A B : Type 0} (view : T → B) (code : A → SortParts) (show : A → B) (xs : List A) (zs : List (Keyed T)) : Type 0 where
   pub shown : List A
   pub permutation : IsPermutation xs shown

@@ -147,7 +147,8 @@ kept-typed fields (Some i) (function.Sum place) (highest d) h = elim h [ ]
 kept-typed fields (Some i) (function.Min place) (highest d) h = elim h [ ]
 kept-typed fields (Some i) (function.Avg place) (highest d) h = elim h [ ]
 
--- states of the functions' types, of which the plain ones are those over some records, are what is kept of these
+-- states of the functions' types, of which the plain ones are those over some records, are what is
+-- kept of these
 pub states-told : (fields : List Field) (functions : List FilteredFunction) (filters : List (Record → Bool)) (rows : List Record) (parts : List AccumulatorState)
     → AreStatesOf fields functions parts → map plain_state parts ≡ map (λ f. function_state f rows) (aggregates_of filters functions)
     → parts ≡ map (λ f. accumulator_state f rows) (aggregates_of filters functions)

@@ -49,7 +49,8 @@ members-spread finer set k rows (q ∷ qs) a =
     ∙ elim (same_key k (rolled_key finer set q)) as (λ b. cond b (members finer q rows) [] ++ spread finer rows (filter (λ p. same_key k (rolled_key finer set p)) qs)
     ≡ spread finer rows (cond b (q ∷ filter (λ p. same_key k (rolled_key finer set p)) qs) (filter (λ p. same_key k (rolled_key finer set p)) qs))) [ true ↦ refl | false ↦ refl ]
 
--- the members of a key are those of the keys of the finer set that are rolled to it, joined, each as often
+-- the members of a key are those of the keys of the finer set that are rolled to it, joined, each
+-- as often
 pub members-partition : (finer set : List ℕ) (k : Key) (rows : List Record) → AreAmong set finer → SameBag (finer_members finer set k rows) (members set k rows)
 members-partition finer set k rows a =
     subst (λ (xs : List Record). SameBag xs (members set k rows)) (members-spread finer set k rows (keys finer rows) a)

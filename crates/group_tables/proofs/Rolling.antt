@@ -162,7 +162,8 @@ get-each es t v d = all-got es es t v (find-each es d)
 
 -- ---- the walk over them
 
--- the table is that of some records, which with the members of the keys that are left are those of all keys
+-- the table is that of some records, which with the members of the keys that are left are those of
+-- all keys
 pub record IsRolled (finer set : List ℕ) (fs : List AggregateFunction) (table : Contents) (left all : Entries) (rows : List Record) : Type 0 where
   pub done : List Record
   pub is_table : IsTableOf set fs table done
@@ -264,7 +265,8 @@ states-spread set fs t rows [] is = refl
 states-spread set fs t rows (q ∷ qs) is =
     group_state-append fs (members set q rows) (spread set rows qs) ∙ (λ i. joint_group (kept-at set fs t rows q is i) (states-spread set fs t rows qs is i))
 
--- what is kept of the group of a key is what the finer table keeps of the keys that are rolled to it, put together
+-- what is kept of the group of a key is what the finer table keeps of the keys that are rolled to
+-- it, put together
 pub group-rolled : (finer set : List ℕ) (fs : List AggregateFunction) (t table : Contents) (key : Key) (group : GroupState) (rows : List Record) → AreAmong set finer
     → IsTableOf finer fs t rows → IsTableOf set fs table rows → fin.get table key ≡ Some group → group ≡ group_of_keys fs t (finer_keys finer set key rows)
 group-rolled finer set fs t table key group rows a is b e =

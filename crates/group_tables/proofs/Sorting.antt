@@ -138,7 +138,8 @@ stands {X} same t P x (y ∷ ys) all h =
     ] refl (omega (arith, h, sum_by-cons (λ (z : X). cond (same x z) 1 0) y ys))
 
 module _ {X : Type 0} {order : X → X → Ordering} (o : IsTotalOrder order) (same : X → X → Bool) (t : Tells same) where
-  -- of two ascending lists that have the same things each as often the first things are one, if they are where they tie
+  -- of two ascending lists that have the same things each as often the first things are one, if
+  -- they are where they tie
   first-by : (x y : X) (xs ys : List X) → (order x y ≡ Equal → 0 < sum_by (λ z. cond (same y z) 1 0) xs → x ≡ y)
       → Ascends order (x ∷ xs) → Ascends order (y ∷ ys) → SameBag (x ∷ xs) (y ∷ ys) → x ≡ y
   first-by x y xs ys tied a b h =
@@ -166,7 +167,8 @@ module _ {X : Type 0} {order : X → X → Ordering} (o : IsTotalOrder order) (s
       first-by x y xs ys
       (λ e k. absurd (true≢false (sym ((Equal-is (order x y)).1 e) ∙ stands same t (λ z. is_eq (order x z) ≡ false) y xs apart.0 k))) a b h
 
-  -- of two ascending lists that have the same things each as often, where no two tie, each is the other
+  -- of two ascending lists that have the same things each as often, where no two tie, each is the
+  -- other
   pub one-list : (xs ys : List X) → Apart order xs → Ascends order xs → Ascends order ys → SameBag xs ys → xs ≡ ys
   one-list [] [] apart a b h = refl
   one-list [] (y ∷ ys) apart a b h = absurd (omega (arith, length-bag [] (y ∷ ys) h))

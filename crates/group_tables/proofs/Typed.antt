@@ -1,5 +1,5 @@
--- Tables of which each group is of the types of columns and set functions: that of records that fit, two that are put
--- together, and one that takes the parts of a finer one.
+-- Tables of which each group is of the types of columns and set functions: that of records that
+-- fit, two that are put together, and one that takes the parts of a finer one.
 use Rattle.std.proofs.Common.{◌≡◌, ◌<◌, ◌==◌, ℕ, zero, suc, Bool, true, false, ◌||◌, cond, List, [], ◌∷◌, map, filter, length, Option, Some, None, IfSome, unwrap_or, refl, sym, subst, ◌∙◌, arith}
 use Rattle.std.proofs.lemmas.Bool.{eqb-true}
 use Rattle.std.specs.List.{AllByRecursion, AllZip, IsDistinct, find, list_any}

@@ -1,4 +1,5 @@
--- A table with one group more, behind all that were there, is of the types of columns and set functions where the group is.
+-- A table with one group more, behind all that were there, is of the types of columns and set
+-- functions where the group is.
 use Rattle.std.proofs.Common.{◌≡◌, ℕ, true, false, cond, List, [], ◌∷◌, Option, Some, None, IfSome, refl, sym, subst}
 use Rattle.std.specs.FinMap as fin
 use Rattle.std.specs.List.{AllZip}

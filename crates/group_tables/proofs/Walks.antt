@@ -1,4 +1,5 @@
--- Walks over the groups of shards: what groups and walks have together, whichever walk gives the next group.
+-- Walks over the groups of shards: what groups and walks have together, whichever walk gives the
+-- next group.
 use Rattle.group_tables.specs.Keys.{key_in}
 use Rattle.std.proofs.Common.{◌≡◌, ◌<◌, ℕ, zero, suc, List, [], ◌∷◌, ◌++◌, set, length, get_or, refl, sym, ap, subst, ◌∙◌, append-nil, append_assoc, arith}
 use Rattle.std.proofs.lemmas.List.Sorted.{IsPermutation-append_comm, IsPermutation-append_left, IsPermutation-append_right, IsPermutation-refl, IsPermutation-trans}
@@ -20,8 +21,8 @@ swapped-fronts xs ys zs =
     (subst (λ front. IsPermutation front ((ys ++ xs) ++ zs)) (append_assoc xs ys zs)
     (IsPermutation-append_left zs (xs ++ ys) (ys ++ xs) (IsPermutation-append_comm xs ys)))
 
--- Groups, with those that the walks have not come to, are those of before in some order, where one walk alone has come further: with
--- what that one has not come to they are the same.
+-- Groups, with those that the walks have not come to, are those of before in some order, where one
+-- walk alone has come further: with what that one has not come to they are the same.
 pub put_next-permutes : (gs hs : List GroupSummary) (i : ℕ) (ws : List Walk) (old new : Walk) → old ≡ get_or ws i old
     → i < length ws
     → hs ++ entry_summaries new.entries ≡ gs ++ entry_summaries old.entries

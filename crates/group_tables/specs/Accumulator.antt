@@ -1,4 +1,6 @@
--- What an accumulator keeps of the members of a group: of COUNT(*) without FILTER nothing, since the number of records is kept beside, and else counts, sums, the different values, the least or the greatest one.
+-- What an accumulator keeps of the members of a group: of COUNT(*) without FILTER nothing, since
+-- the number of records is kept beside, and else counts, sums, the different values, the least or
+-- the greatest one.
 use Rattle.std.specs.Prelude.{◌≡◌, ℕ, ◌+◌, ◌*◌, ◌^◌, zero, suc, ℤ, pos, ◌+ℤ◌, ◌-ℤ◌, ◌≤ℤ◌, Bool, Option, Some, None, List, length, filter, refl, ◌≤◌}
 use Rattle.std.specs.FinSet as set
 use Rattle.std.specs.Coded.{Coded, code_by, coded×, coded_ℕ, coded_ℤ}
@@ -10,7 +12,7 @@ use Rattle.semantics.specs.Aggregates.{column_values, column_numbers, AggregateF
 use Rattle.group_tables.specs.Coding.{coded_datum}
 use Rattle.group_tables.specs.Values.{Values, set_of, falling_order, first_by}
 
--- what is kept for a set function of each kind
+-- What is kept for a set function of each kind.
 pub data AccumulatorState : Type 0 where
   nothing : AccumulatorState
   counted : ℕ → AccumulatorState
@@ -20,7 +22,7 @@ pub data AccumulatorState : Type 0 where
   lowest : Datum → AccumulatorState
   highest : Datum → AccumulatorState
 
--- what is kept for a set function without FILTER of a list of records
+-- What is kept for a set function without FILTER of a list of records.
 abbrev pub state_over : ColumnFunction → List Record → AccumulatorState
 state_over function.CountRows rows = nothing
 state_over (function.Count place) rows = counted (length (column_values place rows))
@@ -30,21 +32,22 @@ state_over (function.Min place) rows = lowest (minimum (column_values place rows
 state_over (function.Max place) rows = highest (maximum (column_values place rows))
 state_over (function.Avg place) rows = averaged (total (column_numbers place rows)) (length (column_numbers place rows))
 
--- what is kept for a set function with FILTER of the records that it keeps: the same, but their number for COUNT(*), as it is not that of all records
+-- What is kept for a set function with FILTER of the records that it keeps: the same, but their
+-- number for COUNT(*), as it is not that of all records
 abbrev pub state_counted : ColumnFunction → List Record → AccumulatorState
 state_counted function.CountRows rows = counted (length rows)
 state_counted f rows = state_over f rows
 
--- what is kept of a list of records for a set function with this FILTER, or with none
+-- What is kept of a list of records for a set function with this FILTER, or with none.
 abbrev pub state_by : Option (Record → Bool) → ColumnFunction → List Record → AccumulatorState
 state_by None f rows = state_over f rows
 state_by (Some keeps) f rows = state_counted f (filter keeps rows)
 
--- what is kept for a set function of a list of records
+-- What is kept for a set function of a list of records.
 abbrev pub accumulator_state : AggregateFunction → List Record → AccumulatorState
 accumulator_state f rows = state_by f.filter f.function rows
 
--- what is kept of two parts of a group for one function; of different functions nothing
+-- What is kept of two parts of a group for one function; of different functions nothing.
 abbrev pub joint_state : AccumulatorState → AccumulatorState → AccumulatorState
 joint_state (counted m) (counted n) = counted (m + n)
 joint_state (summed s m) (summed t n) = summed (s +ℤ t) (m + n)
@@ -56,7 +59,7 @@ joint_state k l = nothing
 
 -- ---- sizes
 
--- the sum of so many numbers of 64 bits
+-- The sum of so many numbers of 64 bits.
 abbrev pub IsSumOf : ℕ → ℤ → Type 0
 IsSumOf lines s = ((pos 0 -ℤ pos (lines * 2 ^ 63)) ≤ℤ s) × (s ≤ℤ pos (lines * 2 ^ 63))
 

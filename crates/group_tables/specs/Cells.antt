@@ -1,4 +1,5 @@
--- The cells of a group: the values of the set functions over it, apart from where they lie in memory.
+-- The cells of a group: the values of the set functions over it, apart from where they lie in
+-- memory.
 use Rattle.values.specs.Datum.{datum_of}
 use Rattle.group_tables.specs.declared.cell.Cell.{Cell}
 use Rattle.group_tables.specs.declared.cell.Cell.TheVariants as cell

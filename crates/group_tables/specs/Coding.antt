@@ -6,7 +6,7 @@ use Rattle.semantics.specs.Values.{Datum, boolean, whole, text, null}
 abbrev pub Parts : Type 0
 Parts = ℕ × (ℤ × List ℕ)
 
--- the parts of a value: its type, its number and its bytes
+-- The parts of a value: its type, its number and its bytes.
 abbrev pub parts : Datum → Parts
 parts (boolean b) = (0, (pos (cond b 1 0), []))
 parts (whole n) = (1, (n, []))

@@ -16,7 +16,7 @@ use Rattle.semantics.specs.ResultRows.{ResultRow, set_of}
 
 -- ---- types
 
--- there is a column of a type, and it holds the value: NULL, or a value of the type
+-- There is a column of a type, and it holds the value: NULL, or a value of the type.
 abbrev pub IsHeld : Option Kind → Datum → Type 0
 IsHeld None d = ⊥
 IsHeld (Some k) d = Holds k d
@@ -55,8 +55,9 @@ HasType fields (function.Avg place) cell = IsAverage cell
 
 -- ---- groups
 
--- Groups fit a query where the index of each is that of a grouping set, its key has a value for each column of the set, and the column holds it,
--- it has a cell for each set function, of the function's type, and no index and key stand twice together.
+-- Groups fit a query where the index of each is that of a grouping set, its key has a value for
+-- each column of the set, and the column holds it, it has a cell for each set function, of the
+-- function's type, and no index and key stand twice together.
 pub record AreFitting (fields : List Field) (t : Query) (found : List ResultRow) : Type 0 where
   pub indexes : All (λ row. row.0 < length (sets_of fields t)) found
   pub keys : All (λ row. length row.1.key ≡ length (set_of fields t row)) found

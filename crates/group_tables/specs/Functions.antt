@@ -4,7 +4,8 @@ use Rattle.query_resolve.specs.declared.function.FilteredFunction.{FilteredFunct
 use Rattle.semantics.specs.Groups.{Record}
 use Rattle.semantics.specs.Aggregates.{AggregateFunction}
 
--- which records the filter with this index keeps, of a list of filters; where there is no such filter none
+-- Which records the filter with this index keeps, of a list of filters; where there is no such
+-- filter none
 abbrev pub filter_at : List (Record → Bool) → ℕ → Record → Bool
 filter_at filters index = slice_index_or filters index (λ row. false)
 
@@ -12,6 +13,6 @@ filter_at filters index = slice_index_or filters index (λ row. false)
 abbrev pub aggregate_of : List (Record → Bool) → FilteredFunction → AggregateFunction
 aggregate_of filters f = record { function = f.function; filter = option_map (filter_at filters) f.filter }
 
--- set functions whose FILTERs are given by their indexes in a list of filters
+-- Set functions whose FILTERs are given by their indexes in a list of filters.
 abbrev pub aggregates_of : List (Record → Bool) → List FilteredFunction → List AggregateFunction
 aggregates_of filters functions = map (aggregate_of filters) functions

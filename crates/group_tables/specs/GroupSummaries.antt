@@ -7,10 +7,10 @@ use Rattle.semantics.specs.Aggregates.{AggregateFunction}
 use Rattle.group_tables.specs.Cells.{summary_of}
 use Rattle.semantics.specs.ResultRows.{GroupSummary, group_summary}
 
--- the summary of a group that a table gives
+-- The summary of a group that a table gives.
 abbrev pub group_summary_in : Group → GroupSummary
 group_summary_in group = record { key = data_of group.key.items; lines = group.lines; cells = map summary_of group.cells.items }
 
--- the summaries of all groups of a list of records under a grouping set, one for each key
+-- The summaries of all groups of a list of records under a grouping set, one for each key.
 abbrev pub group_summaries : List ℕ → List AggregateFunction → List Record → List GroupSummary
 group_summaries set functions rows = map (λ key. group_summary functions key (members set key rows)) (keys set rows)

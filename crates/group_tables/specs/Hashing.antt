@@ -6,12 +6,12 @@ use Rattle.std.specs.RandomState as random
 use Rattle.group_tables.specs.declared.hash.HashSeed.{HashSeed}
 use Rattle.group_tables.specs.declared.hash.HashSeed.TheVariants as seed
 
--- the hasher that a seed begins with
+-- The hasher that a seed begins with.
 abbrev pub initial_hasher : HashSeed → DefaultHasher
 initial_hasher seed.Fixed = initial
 initial_hasher (seed.Random state) = random.initial_hasher state
 
--- the seed is not the fixed one
+-- The seed is not the fixed one.
 abbrev pub IsDrawn : HashSeed → Type 0
 IsDrawn seed.Fixed = ⊥
 IsDrawn (seed.Random state) = ⊤

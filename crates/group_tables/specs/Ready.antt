@@ -1,15 +1,16 @@
--- What lets several threads join. What is proved here stands beside the definitions since an executor cites it.
+-- What lets several threads join. What is proved here stands beside the definitions since an
+-- executor cites it.
 use base.Fml.{Share, Fml, ftrue, ffalse, feq, flt, fsep, fand, for, fwand, fex, fall, fupd, fhide, fat, froom, fleft, fdies, flft, fdead, fobs, fauth, fres, fown, fbor, fobor, flent, fshr_bor, finv, fnamed, ftok, fkid, fme, fsent}
 use base.Shift.{Keyless}
 use denote.RattleType.{RattleType}
 use denote.Param.Send.{SyncAt}
 
--- A `&` to any value of the type says the same to every thread. It is `IsSync` of the type, written as what its parts are: so it is one and the same where a type stands for
--- another's parameter.
+-- A `&` to any value of the type says the same to every thread. It is `IsSync` of the type, written
+-- as what its parts are: so it is one and the same where a type stands for another's parameter.
 abbrev pub IsSyncAtEach : RattleType → Type 0
 IsSyncAtEach R = (x : R.Denot) → SyncAt R x
 
--- there is one proof of it at most
+-- There is one proof of it at most.
 pub keyless-once : (P : Fml) → IsProp (Keyless P)
 keyless-once ftrue = hlevel
 keyless-once ffalse = hlevel

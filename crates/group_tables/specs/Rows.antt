@@ -5,10 +5,11 @@ use Rattle.semantics.specs.Values.{Datum}
 use Rattle.semantics.specs.Groups.{Record}
 use Rattle.semantics.specs.Aggregates.{number_of}
 
--- where the value is a whole number, it is neither below -2^63 nor above 2^63, as none of 64 bits is
+-- Where the value is a whole number, it is neither below -2^63 nor above 2^63, as none of 64 bits
+-- is
 abbrev pub IsNarrow : Datum → Type 0
 IsNarrow d = IfSome (number_of d) (λ n. ((pos 0 -ℤ pos (2 ^ 63)) ≤ℤ n) × (n ≤ℤ pos (2 ^ 63)))
 
--- so are all values of a record
+-- So are all values of a record.
 abbrev pub IsNarrowRow : Record → Type 0
 IsNarrowRow row = AllByRecursion IsNarrow row

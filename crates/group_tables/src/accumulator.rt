@@ -1,4 +1,5 @@
 //! What is kept of the members of a group for one set function.
+
 ghost use Rattle.std.specs.Prelude.{◌≡◌, MatchOption, false, slice_index_or};
 ghost use Rattle.values.specs.Datum.{datum_of, data_of};
 ghost use Rattle.semantics.specs.Values.{null};
@@ -137,8 +138,8 @@ impl Accumulator {
         }
     }
 
-    /// Takes one more record, where the marks say that the FILTER of the function keeps it. After an error what is kept
-    /// is of no use.
+    /// Takes one more record, where the marks say that the FILTER of the function keeps it. After
+    /// an error what is kept is of no use.
     pub(crate) fn add(
         &mut self,
         memory: Memory,
@@ -245,8 +246,8 @@ impl Accumulator {
         Ok(())
     }
 
-    /// Takes what is kept of other records for the same function; for another one nothing is kept. After an error what is kept
-    /// is of no use.
+    /// Takes what is kept of other records for the same function; for another one nothing is kept.
+    /// After an error what is kept is of no use.
     pub(crate) fn absorb(&mut self, memory: Memory, other: Accumulator) -> Result<(), AllocError>
         requires { HasRoom (joint_state (state_in self.old) (state_in other)) }
         ensures joined { OnOk result (state_in self.new
@@ -284,7 +285,8 @@ impl Accumulator {
         Ok(())
     }
 
-    /// Takes copies of what is kept of other records for the same function. After an error what is kept is of no use.
+    /// Takes copies of what is kept of other records for the same function. After an error what is
+    /// kept is of no use.
     pub(crate) fn absorb_copies(
         &mut self,
         memory: Memory,
@@ -391,7 +393,8 @@ fn value_at(row: &[Value], place: usize) -> Option<&Value>
     row.get(place)
 }
 
-/// Whether the filter with this index keeps a record, by the marks of all filters; without FILTER each is kept.
+/// Whether the filter with this index keeps a record, by the marks of all filters; without FILTER
+/// each is kept.
 fn is_marked(marks: &[bool], filter: Option<usize>) -> bool
     ensures { result ≡ is_marked marks.now filter }
 {

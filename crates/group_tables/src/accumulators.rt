@@ -1,4 +1,5 @@
 //! What is kept of the members of a group for all set functions.
+
 ghost use Rattle.std.specs.Prelude.{◌≡◌, IfOk, map};
 ghost use Rattle.group_tables.specs.Inside.Accumulator.{state_in, summary};
 ghost use Rattle.group_tables.specs.Cells.{summary_of};
@@ -84,8 +85,8 @@ impl Accumulators {
         })
     }
 
-    /// Takes one more member, by its values, of which the marks say which filters keep it. After an error the group is
-    /// of no use.
+    /// Takes one more member, by its values, of which the marks say which filters keep it. After an
+    /// error the group is of no use.
     pub(crate) fn add(
         &mut self,
         memory: Memory,

@@ -1,4 +1,5 @@
 //! Copies of values.
+
 ghost use Rattle.std.specs.Prelude.{◌≡◌, IfOk};
 ghost use Rattle.values.specs.Datum.{datum_of};
 

@@ -1,4 +1,5 @@
 //! Who performs an operation: the calling thread alone, or several threads.
+
 ghost use Rattle.std.specs.Prelude.{◌<◌};
 ghost use denote.Param.Send.{IsSync};
 
@@ -24,8 +25,8 @@ pub trait Operation {
         requires can_run { can_run self }
         ensures can_give { can_give self result };
 
-    /// Does it by as many threads as there are hands, the calling one among them, or by fewer where there is little to
-    /// do or a thread cannot be started. There is a hand.
+    /// Does it by as many threads as there are hands, the calling one among them, or by fewer where
+    /// there is little to do or a thread cannot be started. There is a hand.
     fn run_among<H: Threads + Sync>(self, rt: &H, hands: usize) -> Self::Output
         requires can_run { can_run self }
         requires shared { IsSync H.row }
@@ -33,7 +34,8 @@ pub trait Operation {
         ensures can_give { can_give self result };
 }
 
-/// Who performs the operations by which tables of groups are begun, merged, rolled up and finished, and a report is made.
+/// Who performs the operations by which tables of groups are begun, merged, rolled up and finished,
+/// and a report is made.
 ///
 /// Example: `Serial` is the calling thread alone, and `Parallel` several threads.
 pub trait Executor {
@@ -83,8 +85,8 @@ impl Executor for Serial {
 
 /// As many threads as there are workers, the calling one among them. There is a worker.
 ///
-/// Example: `table.absorb(&Parallel { rt: &rt, workers: 4, seed }, other)?` leaves what `table.absorb(&Serial, other)?`
-/// leaves.
+/// Example: `table.absorb(&Parallel { rt: &rt, workers: 4, seed }, other)?` leaves what
+/// `table.absorb(&Serial, other)?` leaves.
 #[derive(Drop)]
 pub struct Parallel<'a, H> {
     /// What starts the threads.

@@ -1,4 +1,5 @@
 //! The comparisons by which MIN and MAX choose.
+
 ghost use Rattle.std.specs.Prelude.{◌≡◌};
 ghost use Rattle.std.specs.Ordering.{is_lt};
 ghost use Rattle.values.specs.Datum.{datum_of};

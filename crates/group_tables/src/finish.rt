@@ -1,4 +1,5 @@
 //! The groups of shards, finished.
+
 ghost use Rattle.std.specs.Prelude.{◌≡◌, IfOk, List, map};
 ghost use Rattle.group_tables.specs.GroupSummaries.{group_summary_in};
 ghost use Rattle.group_tables.specs.Inside.GroupsOfShards.{AreGroupsOfEach, AreGroupsOfShard, AreGroupsOfShards};
@@ -14,7 +15,8 @@ use std::marker::Sync;
 use std::thread;
 use std::thread::Threads;
 
-/// The least number of groups that several threads finish: fewer are done sooner than a thread is started.
+/// The least number of groups that several threads finish: fewer are done sooner than a thread is
+/// started.
 const PARALLEL_MIN_GROUPS: usize = 4_096;
 
 /// The shards of a table whose groups are to be finished.
@@ -88,8 +90,8 @@ fn groups_in_turn(alloc: Global, count: usize, shards: Vec<Shard>) -> Result<Vec
     put_rest(alloc, groups, walks)
 }
 
-/// The same, one shard after the other, each of which is finished by a thread of its own where one can be started. The list
-/// has room for so many groups from the start.
+/// The same, one shard after the other, each of which is finished by a thread of its own where one
+/// can be started. The list has room for so many groups from the start.
 fn groups_among<H: Threads + Sync>(
     rt: &H,
     alloc: Global,
@@ -129,8 +131,8 @@ fn groups_of(alloc: Global, shard: Shard) -> Result<Vec<Group>, AllocError>
     Ok(groups)
 }
 
-/// The groups of all parts, one part after the other, where each part was made, in a list with room for so many groups from
-/// the start.
+/// The groups of all parts, one part after the other, where each part was made, in a list with room
+/// for so many groups from the start.
 fn join_parts(
     alloc: Global,
     room: usize,

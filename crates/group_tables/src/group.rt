@@ -1,4 +1,5 @@
 //! The groups that a table gives.
+
 ghost use Rattle.std.specs.Prelude.{◌≡◌, ◌++◌, ◌∷◌, [], OnOk, map};
 ghost use Rattle.group_tables.specs.Keys.{key_in};
 ghost use Rattle.group_tables.specs.GroupSummaries.{group_summary_in};
@@ -12,19 +13,20 @@ use crate::walk::Walk;
 use std::alloc::{AllocError, Global};
 use values::Value;
 
-/// A group of a grouping set: the members of one key, and the value of each set function over them (ISO/IEC 9075-2,
-/// `<group by clause>`).
+/// A group of a grouping set: the members of one key, and the value of each set function over them
+/// (ISO/IEC 9075-2, `<group by clause>`).
 ///
-/// Example: of the records `'Quay', 250` and `'Quay', 50`, grouped by the first column and with SUM of the second one,
-/// the group has the key `'Quay'`, 2 members and the cell 300.
+/// Example: of the records `'Quay', 250` and `'Quay', 50`, grouped by the first column and with SUM
+/// of the second one, the group has the key `'Quay'`, 2 members and the cell 300.
 #[derive(Debug, Drop)]
 pub struct Group {
-    /// The values in the columns of the set, one for each and in its order; none under the empty set.
+    /// The values in the columns of the set, one for each and in its order; none under the empty
+    /// set.
     pub key: Vec<Value>,
     /// The number of its members, whatever a FILTER keeps of them.
     pub lines: u64,
-    /// The value of each set function over the members, or over those that its FILTER keeps, in the order of the
-    /// functions.
+    /// The value of each set function over the members, or over those that its FILTER keeps, in the
+    /// order of the functions.
     pub cells: Vec<Cell>,
 }
 

@@ -1,11 +1,12 @@
 //! The columns of a grouping set among those of a finer one.
+
 ghost use Rattle.std.specs.Prelude.{◌≡◌, map, IfOk};
 ghost use Rattle.group_tables.specs.Rolled.{index_in};
 
 use std::alloc::{AllocError, Global};
 
-/// Where each place of a set first stands in a finer set: by these places the values of a key of the finer set are a record,
-/// which has the key of the set.
+/// Where each place of a set first stands in a finer set: by these places the values of a key of
+/// the finer set are a record, which has the key of the set.
 pub(crate) fn indices_in(
     alloc: Global,
     finer: &[usize],

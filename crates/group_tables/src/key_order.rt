@@ -1,4 +1,5 @@
 //! Things in the order of their sort keys.
+
 ghost use Rattle.std.specs.Prelude.{◌≡◌, IfOk, map};
 ghost use Rattle.std.specs.List.Sorted.{IsPermutation, IsSortedBy};
 ghost use Rattle.group_tables.specs.Inside.Keyed.{is_before};

@@ -1,4 +1,5 @@
 //! Laws of tables and of their groups, which have no work to do.
+
 ghost use Rattle.std.specs.Prelude.{◌≡◌, ◌≤◌, ◌+◌, ◌↔◌, ℕ, Bool, List, length};
 ghost use Rattle.std.specs.List.{flat_map, sum_by};
 ghost use Rattle.semantics.specs.Groups.{Key, keys, members, Record};
@@ -22,8 +23,8 @@ pub fn order_law()
         → IsTableOf set functions table others }
 {}
 
-/// The same records in any other order have the same keys under each grouping set, each key has the same members, and of
-/// each group the same is shown.
+/// The same records in any other order have the same keys under each grouping set, each key has the
+/// same members, and of each group the same is shown.
 pub fn records_law()
     ensures keys { (set : List ℕ) (rows others : List Record)
         → SameBag rows others → SameBag (keys set rows) (keys set others) }
@@ -34,8 +35,8 @@ pub fn records_law()
         → SameBag (group_summaries set functions rows) (group_summaries set functions others) }
 {}
 
-/// Under each grouping set a record is a member of exactly one group, and the numbers of members add up to that of the
-/// records.
+/// Under each grouping set a record is a member of exactly one group, and the numbers of members
+/// add up to that of the records.
 pub fn members_law()
     ensures members { (set : List ℕ) (rows : List Record)
         → SameBag (flat_map (λ key. members set key rows) (keys set rows)) rows }
@@ -43,8 +44,9 @@ pub fn members_law()
         → sum_by (λ group. group.lines) (group_summaries set functions rows) ≡ length rows }
 {}
 
-/// The members of a key are those of the keys of a finer set that have its values in the columns of the set, joined,
-/// each as often. So what a table keeps of a group is what a table of the finer set keeps of those keys, put together.
+/// The members of a key are those of the keys of a finer set that have its values in the columns of
+/// the set, joined, each as often. So what a table keeps of a group is what a table of the finer
+/// set keeps of those keys, put together.
 pub fn roll_law()
     ensures members { (finer set : List ℕ) (key : Key) (rows : List Record)
         → AreAmong set finer → SameBag (finer_members finer set key rows) (members set key rows) }
@@ -53,9 +55,9 @@ pub fn roll_law()
         → AreAmong set finer → HasGroupsOfFiner finer functions table set rolled }
 {}
 
-/// One table alone has at each key what two tables have: both, put together. Of tables of records under one set and for the
-/// same functions it is the table of the records of both. Of two tables that can be put together it does not matter which
-/// one comes first.
+/// One table alone has at each key what two tables have: both, put together. Of tables of records
+/// under one set and for the same functions it is the table of the records of both. Of two tables
+/// that can be put together it does not matter which one comes first.
 pub fn both_law()
     ensures groups { (first second table : Contents)
         → HasGroupsOfBoth first second table ↔ (table ≡ both_tables first second) }
@@ -64,8 +66,8 @@ pub fn both_law()
         → both_tables first second ≡ both_tables second first }
 {}
 
-/// The groups of a table have no more records together than the table is of. Those of the groups of two tables, put
-/// together, have no more than those of both.
+/// The groups of a table have no more records together than the table is of. Those of the groups of
+/// two tables, put together, have no more than those of both.
 pub fn counted_law()
     ensures records { (most : ℕ) (set : List ℕ) (functions : List FilteredFunction)
         (filters : List (Record → Bool)) (table : Contents) (rows : List Record)
@@ -76,8 +78,8 @@ pub fn counted_law()
         → IsCounted (m + n) functions (both_tables a b) }
 {}
 
-/// The groups of a table of records that fit the columns are of the types of these and of the set functions. So are
-/// those of two tables that are, put together.
+/// The groups of a table of records that fit the columns are of the types of these and of the set
+/// functions. So are those of two tables that are, put together.
 pub fn typed_law()
     ensures records { (fields : List Field) (set : List ℕ) (functions : List FilteredFunction)
         (filters : List (Record → Bool)) (table : Contents) (rows : List Record)
@@ -90,8 +92,9 @@ pub fn typed_law()
         → IsTypedTable fields set functions (both_tables a b) }
 {}
 
-/// The list of the groups of a table of records is that of the groups of these records, by ascending keys. And a table of
-/// the types of columns and set functions whose list this is, is that of these records.
+/// The list of the groups of a table of records is that of the groups of these records, by
+/// ascending keys. And a table of the types of columns and set functions whose list this is, is
+/// that of these records.
 pub fn entries_law()
     ensures of_records { (set : List ℕ) (functions : List AggregateFunction)
         (table : Contents) (rows : List Record)

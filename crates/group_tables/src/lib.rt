@@ -1,8 +1,9 @@
 //! What the groups of a list of records are, and tables from which they are computed.
 //!
-//! The meaning is in `specs/`: the keys of a grouping set, the members of a key, and the value of each set function
-//! over a list of records (ISO/IEC 9075-2, `<group by clause>` and `<set function specification>`). A table keeps
-//! for each key an accumulator of each set function, and can be merged with another one.
+//! The meaning is in `specs/`: the keys of a grouping set, the members of a key, and the value of
+//! each set function over a list of records (ISO/IEC 9075-2, `<group by clause>` and
+//! `<set function specification>`). A table keeps for each key an accumulator of each set function,
+//! and can be merged with another one.
 #![tactic(auto)]
 
 mod accumulator;

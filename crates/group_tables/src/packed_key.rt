@@ -1,4 +1,5 @@
 //! Keys as strings of bytes.
+
 ghost use Rattle.std.specs.Prelude.{◌≡◌, ◌++◌, OnOk, map, slice_index_or};
 ghost use Rattle.values.specs.Datum.{data_of};
 ghost use Rattle.semantics.specs.Groups.{value_at};
@@ -12,8 +13,8 @@ use std::alloc::{AllocError, Global};
 use std::hash::{Hash, Hasher};
 use values::Value;
 
-/// A key of a table: the codes of its values, one after the other. No two keys have one code, so that keys are hashed and
-/// compared as strings of bytes.
+/// A key of a table: the codes of its values, one after the other. No two keys have one code, so
+/// that keys are hashed and compared as strings of bytes.
 #[derive(PartialEq, Eq, Drop)]
 pub(crate) struct PackedKey {
     code: Vec<u8>,
@@ -81,8 +82,9 @@ impl PackedKey {
         Ok(PackedKey { code })
     }
 
-    /// The values of another key at some places, in the memory of this key; where the other one has no such place it is NULL.
-    /// No value is made: the codes of the other key's values, which the list takes, are put one after the other.
+    /// The values of another key at some places, in the memory of this key; where the other one has
+    /// no such place it is NULL. No value is made: the codes of the other key's values, which the
+    /// list takes, are put one after the other.
     pub(crate) fn rewrite_from<'a>(
         self,
         places: &[usize],
@@ -156,7 +158,8 @@ fn value_room(value: &Value) -> usize {
     }
 }
 
-/// Puts the code of the value in the column at a place behind other bytes; where there is no such column it counts as NULL.
+/// Puts the code of the value in the column at a place behind other bytes; where there is no such
+/// column it counts as NULL.
 fn put_value_at(code: &mut Vec<u8>, row: &[Value], place: usize) -> Result<(), AllocError>
     ensures code { OnOk result (code.new.items
         ≡ code.old.items ++ value_code (value_at place (data_of row.now))) }

@@ -1,4 +1,5 @@
 //! Shards of two tables that are put together.
+
 ghost use Rattle.std.specs.Prelude.{◌≡◌, ◌<◌, ℕ, true, All, IfOk, length, map, slice_index_or, vec_len};
 ghost use Rattle.group_tables.specs.Inside.Shards.{AreJoined, CanJoinEach};
 ghost use Rattle.group_tables.specs.Inside.Pairs.{CanJoinPair, HasJoined};
@@ -12,7 +13,8 @@ use std::marker::Sync;
 use std::thread::Threads;
 use std::{mem, thread};
 
-/// The least number of groups that several threads put to others: fewer are there sooner than a thread is started.
+/// The least number of groups that several threads put to others: fewer are there sooner than a
+/// thread is started.
 const PARALLEL_MIN_GROUPS: usize = 4_096;
 
 /// The shards of two tables, of which each is put to the other one's of the same place.
@@ -60,8 +62,8 @@ impl Operation for JoinShards {
     }
 }
 
-/// The shards, each with the groups of the other list's shard of the same place, which the executor puts to it. The other
-/// list has so many groups.
+/// The shards, each with the groups of the other list's shard of the same place, which the executor
+/// puts to it. The other list has so many groups.
 pub(crate) fn join_shards<E: Executor>(
     executor: &E,
     memory: Memory,

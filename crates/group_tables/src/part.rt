@@ -1,4 +1,5 @@
 //! What a group takes.
+
 ghost use Rattle.std.specs.Prelude.{◌≡◌, Some, OnOk};
 ghost use Rattle.group_tables.specs.Inside.Table.{IsTaken, group_with_part};
 

@@ -1,4 +1,5 @@
 //! Which shard of a table keeps a key.
+
 ghost use Rattle.std.specs.Prelude.{◌≡◌, ◌<◌, ◌≤◌, ◌^◌};
 ghost use Rattle.group_tables.specs.Keys.{key_in};
 ghost use Rattle.group_tables.specs.Shards.{code_hash, last_bytes, shard_index};
@@ -14,7 +15,8 @@ const HASHED_SUFFIX_LEN: usize = 16;
 /// The odd number that parts 2^128 in the golden ratio, by which multiplicative hashing multiplies.
 const MULTIPLIER: u128 = 210_306_068_529_402_873_165_736_369_884_012_333_109;
 
-/// The number of the shard that keeps a key among so many of them. Where there is one, the key is not looked at.
+/// The number of the shard that keeps a key among so many of them. Where there is one, the key is
+/// not looked at.
 pub(crate) fn place_of(key: &PackedKey, count: usize) -> usize
     requires some { 0 < count }
     requires few { count ≤ 4 }

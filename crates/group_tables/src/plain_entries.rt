@@ -1,4 +1,5 @@
 //! Tables as lists of groups.
+
 ghost use Rattle.std.specs.Prelude.{◌≡◌, ◌++◌, IfOk, OnOk, map};
 ghost use Rattle.values.specs.GroupStates.{entries_of};
 ghost use Rattle.sort_keys.specs.SortKeys.{key_parts, parts_of};
@@ -46,8 +47,8 @@ fn keyed_entries(
     Ok(keyed)
 }
 
-/// Puts the groups of a shard behind others, each beside its sort key. The codes are written into `code`, in place of what is
-/// there.
+/// Puts the groups of a shard behind others, each beside its sort key. The codes are written into
+/// `code`, in place of what is there.
 fn put_entries(
     alloc: Global,
     code: &mut Vec<u8>,
@@ -90,7 +91,8 @@ fn keyed_entry(
     })
 }
 
-/// The sort key of a key's code with a 0 behind it, so that no code is the beginning of another one.
+/// The sort key of a key's code with a 0 behind it, so that no code is the beginning of another
+/// one.
 fn sort_key_of(alloc: Global, code: &mut Vec<u8>, key: &PackedKey) -> Result<SortKey, AllocError>
     ensures { IfOk result (λ sort_key. key_parts sort_key ≡ parts_of (sort_code (key_in key.now))) }
 {

@@ -1,4 +1,5 @@
 //! A shard of a table: a hashed map of groups.
+
 ghost use Rattle.std.specs.Prelude.{◌≤◌};
 ghost use Rattle.std.specs.HashMap.{hash_map_len};
 ghost use Rattle.std.specs.List.{IsDistinct};
@@ -16,7 +17,8 @@ use query_resolve::FilteredFunction;
 use std::alloc::AllocError;
 use std::collections::HashMap;
 
-/// The most groups of a shard. No memory has room for as many, so that their number is always one of 64 bits.
+/// The most groups of a shard. No memory has room for as many, so that their number is always one
+/// of 64 bits.
 const MOST: usize = 576_460_752_303_423_488;
 
 /// Some groups of a table, each by its key.
@@ -53,8 +55,8 @@ impl Shard {
         self.groups.len()
     }
 
-    /// Puts one more part to the group of a key. At each other key there is afterwards what was there, also
-    /// after an error.
+    /// Puts one more part to the group of a key. At each other key there is afterwards what was
+    /// there, also after an error.
     pub(crate) fn put(
         &mut self,
         memory: Memory,
@@ -82,8 +84,8 @@ impl Shard {
         Ok(())
     }
 
-    /// Moves one more part to the group of a key. At each other key there is afterwards what was there, also after an
-    /// error.
+    /// Moves one more part to the group of a key. At each other key there is afterwards what was
+    /// there, also after an error.
     pub(crate) fn put_group(
         &mut self,
         memory: Memory,
@@ -119,7 +121,8 @@ impl Shard {
         Ok(())
     }
 
-    /// Puts copies of what is kept of all groups to a group, whatever their keys. After an error the group is of no use.
+    /// Puts copies of what is kept of all groups to a group, whatever their keys. After an error
+    /// the group is of no use.
     pub(crate) fn put_copies_to(
         &self,
         memory: Memory,

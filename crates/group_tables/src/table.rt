@@ -1,4 +1,5 @@
 //! A hashed table of groups.
+
 ghost use Rattle.std.specs.Prelude.{◌<◌, ◌≤◌, vec_len};
 ghost use Rattle.std.proofs.Props.{props};
 ghost use Rattle.group_tables.specs.Shards.{AreApart};
@@ -24,24 +25,24 @@ use values::{GroupEntry, Value};
 
 /// The groups of one grouping set over the records that were taken so far, each by its key.
 ///
-/// It keeps the seed by which it hashes, and hands it to all tables that are made of it; where two are put together,
-/// the one that takes keeps its own.
+/// It keeps the seed by which it hashes, and hands it to all tables that are made of it; where two
+/// are put together, the one that takes keeps its own.
 ///
-/// It keeps neither its grouping set nor its set functions: each call that needs them is given the same ones. Of a
-/// group it keeps the number of its members, and for each set function what its value comes of: COUNT DISTINCT keeps
-/// each different value.
+/// It keeps neither its grouping set nor its set functions: each call that needs them is given the
+/// same ones. Of a group it keeps the number of its members, and for each set function what its
+/// value comes of: COUNT DISTINCT keeps each different value.
 ///
-/// Example: the table that has taken the records `'x'`, `'y'` and `'x'`, grouped by their one column with `COUNT(*)`,
-/// has two groups: that of `'x'` with 2 members, and that of `'y'` with 1.
+/// Example: the table that has taken the records `'x'`, `'y'` and `'x'`, grouped by their one
+/// column with `COUNT(*)`, has two groups: that of `'x'` with 2 members, and that of `'y'` with 1.
 pub struct Table {
     memory: Memory,
-    /// The groups, each in the shard of its key's place. Either there are several shards, so that tables can be put
-    /// together shard by shard, by several threads; or there is one, in which the groups lie in the order in which they
-    /// came.
+    /// The groups, each in the shard of its key's place. Either there are several shards, so that
+    /// tables can be put together shard by shard, by several threads; or there is one, in which the
+    /// groups lie in the order in which they came.
     shards: Vec<Shard>,
-    /// The key by which a group was last searched. It is written over the one before, so that no memory is taken for a
-    /// record whose group is there. A new group gets a key of its own, with room for its own code and no more; this
-    /// one keeps room for the longest code so far.
+    /// The key by which a group was last searched. It is written over the one before, so that no
+    /// memory is taken for a record whose group is there. A new group gets a key of its own, with
+    /// room for its own code and no more; this one keeps room for the longest code so far.
     scratch: PackedKey,
     ghost some: { 0 < vec_len shards },
     ghost few: { vec_len shards ≤ 4 },
@@ -88,12 +89,14 @@ impl Table {
     ghost use Rattle.group_tables.specs.Typed.{HaveTypesOfTable, KeepsTypes};
     ghost use Rattle.group_tables.specs.Rolled.{AreAmong};
 
-    /// The table of no records under a grouping set, for these set functions, whatever their filters keep. The set has
-    /// the places of its columns, from 0. The empty set has its one group from the start, with the empty key. The seed
-    /// is that of all hashes of the table. It is kept in such a way that as many hands put it to another one soonest
-    /// (`absorb`), where that one is kept so too. What is taken and given does not depend on the hands.
+    /// The table of no records under a grouping set, for these set functions, whatever their
+    /// filters keep. The set has the places of its columns, from 0. The empty set has its one group
+    /// from the start, with the empty key. The seed is that of all hashes of the table. It is kept
+    /// in such a way that as many hands put it to another one soonest (`absorb`), where that one is
+    /// kept so too. What is taken and given does not depend on the hands.
     ///
-    /// Example: `Table::new(alloc, seed, 4, &[], functions)` answers a table whose `len()` is 1; with `&[0]` it is 0.
+    /// Example: `Table::new(alloc, seed, 4, &[], functions)` answers a table whose `len()` is 1;
+    /// with `&[0]` it is 0.
     ///
     /// # Errors
     ///
@@ -132,7 +135,8 @@ impl Table {
         })
     }
 
-    /// The table of so many shards of no records under the empty set, whose one key is there from the start.
+    /// The table of so many shards of no records under the empty set, whose one key is there from
+    /// the start.
     fn with_empty_key(
         memory: Memory,
         count: usize,
@@ -149,7 +153,8 @@ impl Table {
         Ok(table)
     }
 
-    /// The table without any group, kept as `new` keeps it. Groups may be put into it (`put_entry`).
+    /// The table without any group, kept as `new` keeps it. Groups may be put into it
+    /// (`put_entry`).
     ///
     /// Example: `Table::for_entries(alloc, seed, 4)` answers a table whose `len()` is 0.
     ///
@@ -162,14 +167,16 @@ impl Table {
         Table::without_groups(Memory { alloc, seed }, hands.clamp(1, SHARDS))
     }
 
-    /// Takes one more record into the group of its key. `row` has the values of the record, and `marks` says of each
-    /// filter, by its index from 0, whether it keeps the record: the mark of a set function is that with the index of
-    /// its FILTER. A value in a column that the record does not have counts as NULL.
+    /// Takes one more record into the group of its key. `row` has the values of the record, and
+    /// `marks` says of each filter, by its index from 0, whether it keeps the record: the mark of a
+    /// set function is that with the index of its FILTER. A value in a column that the record does
+    /// not have counts as NULL.
     ///
-    /// This is a table under this set for these functions, of fewer than 2^63 - 1 records, and no whole number of the
-    /// record is below -2^63 or above 2^63.
+    /// This is a table under this set for these functions, of fewer than 2^63 - 1 records, and no
+    /// whole number of the record is below -2^63 or above 2^63.
     ///
-    /// Example: a record whose key has no group yet makes `len()` one more; the next one with that key leaves it so.
+    /// Example: a record whose key has no group yet makes `len()` one more; the next one with that
+    /// key leaves it so.
     ///
     /// # Errors
     ///
@@ -189,19 +196,20 @@ impl Table {
         self.put(set, functions, row, Part::Record(row, marks))
     }
 
-    /// Takes the records of another table under the same set for the same functions, whose groups move into this one. The
-    /// executor moves them: by several threads where they are many and both tables are kept for several hands (`new`).
+    /// Takes the records of another table under the same set for the same functions, whose groups
+    /// move into this one. The executor moves them: by several threads where they are many and both
+    /// tables are kept for several hands (`new`).
     ///
-    /// Where both have a group of one key, the two have fewer than 2^63 members together, and are for as many
-    /// functions.
+    /// Where both have a group of one key, the two have fewer than 2^63 members together, and are
+    /// for as many functions.
     ///
-    /// Example: a table with 2 members of the key `'x'` that takes one with 1 of `'x'` and 1 of `'y'` has 3 of `'x'`
-    /// and 1 of `'y'`.
+    /// Example: a table with 2 members of the key `'x'` that takes one with 1 of `'x'` and 1 of
+    /// `'y'` has 3 of `'x'` and 1 of `'y'`.
     ///
     /// # Errors
     ///
-    /// `AllocError` where there is no memory for it; the table is of no use then. Where a thread cannot be started, the one
-    /// that wanted to start it does its part.
+    /// `AllocError` where there is no memory for it; the table is of no use then. Where a thread
+    /// cannot be started, the one that wanted to start it does its part.
     pub fn absorb<E: Executor>(&mut self, executor: &E, other: Table) -> Result<(), AllocError>
         requires ready { E.ready executor.now }
         requires join { CanJoin self.old other }
@@ -213,14 +221,15 @@ impl Table {
         Ok(())
     }
 
-    /// The table of the same records under another set, made of the groups of this one, which stays as it is. So it may
-    /// be made of a table that was rolled before.
+    /// The table of the same records under another set, made of the groups of this one, which stays
+    /// as it is. So it may be made of a table that was rolled before.
     ///
-    /// The groups of this one have fewer than 2^63 records together, whichever these are, and are kept for these functions;
-    /// each column of `set` is one of `finer`, the set of this table, in whatever order.
+    /// The groups of this one have fewer than 2^63 records together, whichever these are, and are
+    /// kept for these functions; each column of `set` is one of `finer`, the set of this table, in
+    /// whatever order.
     ///
-    /// Example: a table with 2 members of the key `('Quay', 'sale')` and 1 of `('Quay', 'refund')` gives, rolled to its
-    /// first column, one with 3 members of `'Quay'`.
+    /// Example: a table with 2 members of the key `('Quay', 'sale')` and 1 of `('Quay', 'refund')`
+    /// gives, rolled to its first column, one with 3 members of `'Quay'`.
     ///
     /// # Errors
     ///
@@ -256,7 +265,8 @@ impl Table {
         Ok(rolled)
     }
 
-    /// The table under the empty set. Its one group takes what is kept of each group, and no key is searched.
+    /// The table under the empty set. Its one group takes what is kept of each group, and no key is
+    /// searched.
     fn roll_to_one(&self, functions: &[FilteredFunction]) -> Result<Table, AllocError>
         requires few { HasFewRecords functions.now self.now }
         ensures rolled { IfOk result (λ table.
@@ -286,11 +296,12 @@ impl Table {
         count
     }
 
-    /// One group for each key of the records, in no order that is said: with the number of its members, and the value
-    /// of each set function over those that its FILTER keeps, or over all where it has none. The executor finishes them.
+    /// One group for each key of the records, in no order that is said: with the number of its
+    /// members, and the value of each set function over those that its FILTER keeps, or over all
+    /// where it has none. The executor finishes them.
     ///
-    /// Example: under the empty set over no records it gives one group, with the empty key and 0 members, where each
-    /// COUNT is 0 and each other set function NULL.
+    /// Example: under the empty set over no records it gives one group, with the empty key and 0
+    /// members, where each COUNT is 0 and each other set function NULL.
     ///
     /// # Errors
     ///
@@ -310,11 +321,12 @@ impl Table {
         finish_shards(executor, memory.alloc, count, shards)
     }
 
-    /// Its groups as plain values, by ascending keys: of each the key, the number of its members, and the state of each set
-    /// function over them.
+    /// Its groups as plain values, by ascending keys: of each the key, the number of its members,
+    /// and the state of each set function over them.
     ///
-    /// Example: of the records `'y', 3`, `'x', 5` and `'x', 2`, grouped by their first column with SUM of the second one, it
-    /// gives the group of `'x'` with 2 members and the state `Sum(7, 2)`, and then that of `'y'`.
+    /// Example: of the records `'y', 3`, `'x', 5` and `'x', 2`, grouped by their first column with
+    /// SUM of the second one, it gives the group of `'x'` with 2 members and the state `Sum(7, 2)`,
+    /// and then that of `'y'`.
     ///
     /// # Errors
     ///
@@ -334,10 +346,11 @@ impl Table {
 
     /// Puts a group behind all that are there. These are for the same functions.
     ///
-    /// Its key is above all that are there (`key_order`: values as ORDER BY has them, NULL last), and it has a state of its
-    /// form for each set function, over its members.
+    /// Its key is above all that are there (`key_order`: values as ORDER BY has them, NULL last),
+    /// and it has a state of its form for each set function, over its members.
     ///
-    /// Example: a table that has the group of `'x'` and takes that of `'y'` gives these two with `into_entries`.
+    /// Example: a table that has the group of `'x'` and takes that of `'y'` gives these two with
+    /// `into_entries`.
     ///
     /// # Errors
     ///
@@ -389,7 +402,8 @@ impl Table {
         mem::replace(&mut self.scratch, PackedKey::empty(self.memory.alloc))
     }
 
-    /// Puts one more part to the group of a key, and keeps the key as the one by which a group was last searched.
+    /// Puts one more part to the group of a key, and keeps the key as the one by which a group was
+    /// last searched.
     fn put_by_key(
         &mut self,
         key: PackedKey,

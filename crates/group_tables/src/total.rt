@@ -1,4 +1,5 @@
 //! Sums of whole numbers.
+
 ghost use Rattle.std.specs.Prelude.{◌≡◌, ◌+◌, ◌<◌, ◌^◌, ◌∷◌, [], ◌+ℤ◌, FitsSigned, length};
 ghost use Rattle.std.specs.Int.{w128};
 ghost use Rattle.values.specs.Datum.{datum_of};

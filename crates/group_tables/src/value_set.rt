@@ -1,4 +1,5 @@
 //! Sets of values that take no more memory than their values need.
+
 ghost use Rattle.std.specs.Prelude.{◌≡◌, ◌∷◌, [], IfOk, OnOk, map};
 ghost use Rattle.std.specs.FinSet as set;
 ghost use Rattle.std.specs.List.{AllByRecursion, IsDistinct};
@@ -23,7 +24,8 @@ use values::Value;
 
 /// A set of values: no value takes no memory, and one value none but that of its copy.
 ///
-/// What it has stands in a box: with a value in it, each accumulator would be larger, those of other set functions too.
+/// What it has stands in a box: with a value in it, each accumulator would be larger, those of
+/// other set functions too.
 #[derive(Drop)]
 pub(crate) enum ValueSet {
     /// No value.
@@ -88,7 +90,8 @@ impl ValueSet {
         }
     }
 
-    /// Takes a value, of which a copy is kept where it is a new one. After an error the set is of no use.
+    /// Takes a value, of which a copy is kept where it is a new one. After an error the set is of
+    /// no use.
     pub(crate) fn insert_copy(&mut self, memory: Memory, value: &Value) -> Result<(), AllocError>
         ensures { OnOk result
             (shown self.new ≡ set.insert (shown self.old) (datum_of value.now)) }
@@ -100,8 +103,8 @@ impl ValueSet {
         self.insert(memory, copy)
     }
 
-    /// Takes the values of another set: those of the smaller one move into the larger one. After an error the set is of
-    /// no use.
+    /// Takes the values of another set: those of the smaller one move into the larger one. After an
+    /// error the set is of no use.
     pub(crate) fn absorb(&mut self, memory: Memory, other: ValueSet) -> Result<(), AllocError>
         ensures { OnOk result (shown self.new ≡ set.union (shown self.old) (shown other)) }
     {
@@ -138,7 +141,8 @@ impl ValueSet {
         Ok(())
     }
 
-    /// Takes copies of the values of another set, of those that are new ones. After an error the set is of no use.
+    /// Takes copies of the values of another set, of those that are new ones. After an error the
+    /// set is of no use.
     pub(crate) fn absorb_copies(
         &mut self,
         memory: Memory,

@@ -1,4 +1,5 @@
 //! The groups of shards, taken one of each shard in turn.
+
 ghost use Rattle.std.specs.Prelude.{◌≡◌, IfOk, OnOk, map};
 ghost use Rattle.std.specs.List.Sorted.{IsPermutation};
 ghost use Rattle.group_tables.specs.GroupSummaries.{group_summary_in};

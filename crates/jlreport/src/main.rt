@@ -34,7 +34,8 @@ impl Read for Source {
 }
 
 impl Source {
-    /// What the word for FILE names: standard input where it is `-`, and else the file of this path, unless it cannot be opened.
+    /// What the word for FILE names: standard input where it is `-`, and else the file of this
+    /// path, unless it cannot be opened.
     fn open(rt: &HostRuntime, word: &str) -> Option<Source> {
         if word == "-" {
             return Some(Source::Standard(rt.stdin()));
@@ -42,7 +43,8 @@ impl Source {
         File::open(rt, word).ok().map(Source::File)
     }
 
-    /// How many bytes there are, where that is known before they are read: those of a file that is no pipe and no device.
+    /// How many bytes there are, where that is known before they are read: those of a file that is
+    /// no pipe and no device.
     fn size(&self) -> Option<u64> {
         match self {
             Source::File(file) => file
@@ -55,7 +57,8 @@ impl Source {
     }
 }
 
-/// What the word for FILE names, unless it cannot be opened; with a line on the terminal, where that is asked for.
+/// What the word for FILE names, unless it cannot be opened; with a line on the terminal, where
+/// that is asked for.
 fn open<'a>(rt: &'a HostRuntime, word: &str, progress: bool) -> Option<Watched<'a, Source>> {
     let source = Source::open(rt, word)?;
     let line = if progress {

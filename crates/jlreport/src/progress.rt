@@ -44,8 +44,9 @@ impl<R: Read + Drop> Read for Watched<'_, R> {
     }
 }
 
-/// A line on the terminal that tells how many bytes are read, of how many where that is known, how many in a second, and
-/// the time that is left. It is written a few times a second, and gone once the value is let go.
+/// A line on the terminal that tells how many bytes are read, of how many where that is known, how
+/// many in a second, and the time that is left. It is written a few times a second, and gone once
+/// the value is let go.
 pub(crate) struct ProgressLine<'a> {
     rt: &'a HostRuntime,
     terminal: File,
@@ -60,7 +61,8 @@ pub(crate) struct ProgressLine<'a> {
 }
 
 impl<'a> ProgressLine<'a> {
-    /// The line of bytes that are to be read, of which nothing is shown yet; `None` where there is no terminal, or no clock.
+    /// The line of bytes that are to be read, of which nothing is shown yet; `None` where there is
+    /// no terminal, or no clock.
     pub(crate) fn new(rt: &'a HostRuntime, size: Option<u64>) -> Option<ProgressLine<'a>> {
         let terminal = OpenOptions::new().write(true).open(rt, TERMINAL).ok()?;
         let start = Instant::now(rt).ok()?;
@@ -88,7 +90,8 @@ impl<'a> ProgressLine<'a> {
         }
     }
 
-    /// Writes the line as it is at a time after the start. What the terminal does not take is not shown.
+    /// Writes the line as it is at a time after the start. What the terminal does not take is not
+    /// shown.
     fn show(&mut self, time: u64) {
         if let Ok(text) = progress_text(self.rt.alloc(), self.read, self.size, time) {
             self.is_shown = true;
@@ -132,14 +135,15 @@ fn progress_text(
     }
 }
 
-/// How many bytes are read in a second, where so many are in so many milliseconds; 0 where these are none.
+/// How many bytes are read in a second, where so many are in so many milliseconds; 0 where these
+/// are none.
 fn in_a_second(read: u64, time: u64) -> u64 {
     let bytes = (u128::from(read) * 1000).checked_div(u128::from(time));
     bytes.and_then(|it| u64::try_from(it).ok()).unwrap_or(0)
 }
 
-/// How many seconds are left, where so many bytes are, and so many others are read in so many milliseconds; 0 where
-/// these are none.
+/// How many seconds are left, where so many bytes are, and so many others are read in so many
+/// milliseconds; 0 where these are none.
 fn seconds_left(left: u64, read: u64, time: u64) -> u64 {
     let milliseconds = (u128::from(left) * u128::from(time)).checked_div(u128::from(read));
     milliseconds

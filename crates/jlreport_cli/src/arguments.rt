@@ -1,4 +1,5 @@
 //! The kinds of argument that the program's command has.
+
 ghost use Rattle.std.specs.Prelude.{◌≡◌, ◌↔◌, [], ◌∷◌, Some, codes, false, is_some, true};
 ghost use Rattle.clap.specs.Words.{first_value, found_of, one_text, rule_of};
 ghost use Rattle.semantics.specs.CommandLine.{flag, number_option, required_option, required_word, IsNumberIn};

@@ -1,4 +1,5 @@
 //! The command of the program, and what words say under it.
+
 ghost use Rattle.std.specs.Prelude.{◌≡◌, ◌↔◌, [], ℕ, IfErr, IfOk, IfSome, IsNone, Some, codes, true};
 ghost use Rattle.clap.specs.Walk.{texts};
 ghost use Rattle.clap.specs.Words.{app_of, fault_of, kind_of, new_app};
@@ -202,9 +203,9 @@ fn options_of(matches: &ArgMatches<'_>) -> Option<Options>
 ///
 /// # Errors
 ///
-/// `WordsFault::Clap` where the words have a fault under the command, where they ask for help or for
-/// the version, and where memory runs out; `WordsFault::Range` where they have none, and a number is out of its
-/// range. `WordsFault::NotUtf8` is never answered.
+/// `WordsFault::Clap` where the words have a fault under the command, where they ask for help or
+/// for the version, and where memory runs out; `WordsFault::Range` where they have none, and a
+/// number is out of its range. `WordsFault::NotUtf8` is never answered.
 pub fn settings<'a>(alloc: Global, words: &'a [&'a str]) -> Result<Settings<'a>, WordsFault>
     ensures columns { IfOk result (λ s.
         value_of (codes "columns") (texts words.now) ≡ Some s.columns.now) }

@@ -5,8 +5,8 @@ use semantics::Options;
 /// What a run of the program is asked for. The texts are those of the words, and are not copied.
 ///
 /// Example: of `jlreport --columns q:int --query 'SELECT SUM(q) FROM lines' lines.jsonl`, `columns`
-/// is `q:int`, `query` is `SELECT SUM(q) FROM lines`, `file` is `lines.jsonl`, and `explain`, `partial`,
-/// `join` and `progress` are `false`.
+/// is `q:int`, `query` is `SELECT SUM(q) FROM lines`, `file` is `lines.jsonl`, and `explain`,
+/// `partial`, `join` and `progress` are `false`.
 #[derive(Clone, Copy, Debug, PartialEq, Eq)]
 pub struct Settings<'a> {
     /// The text of the columns, not read yet: `name:type` parts joined by commas, where it is good.

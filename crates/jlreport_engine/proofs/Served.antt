@@ -27,7 +27,8 @@ memory-or-other faults.FunctionNotAllowed = inr (λ e. let wrong = e in absurd c
 memory-or-other (faults.RepeatedHeader n) = inr (λ e. let wrong = e in absurd cc)
 memory-or-other faults.OutOfMemory = inl refl
 
--- A query that its text derives is refused under good columns by the first of its faults, unless memory ran out.
+-- A query that its text derives is refused under good columns by the first of its faults, unless
+-- memory ran out.
 pub refused-under : (columns query : List ℕ) (fields : List Field) (form : Query) (fault : QueryFault)
     → schema_of columns ≡ Ok fields → Derives query form → (fault ≢ faults.OutOfMemory → slice_get (query_faults fields form) 0 ≡ Some fault)
     → IsRefused columns query (Err (ending.Query fault))

@@ -1,4 +1,5 @@
 //! The explanation of a query.
+
 ghost use Rattle.std.specs.Prelude.{◌≡◌, IfOk, string_bytes};
 ghost use Rattle.semantics.specs.Explanation.{explanation};
 

@@ -1,4 +1,6 @@
-//! Joins: from the parts that a reader gives to the report of all their inputs, or to the part of these.
+//! Joins: from the parts that a reader gives to the report of all their inputs, or to the part of
+//! these.
+
 ghost use Rattle.std.specs.Prelude.{◌≡◌, ◌≢◌, IfErr, IfSome, OnOk};
 ghost use Rattle.parts.specs.Joining.{IsReadOf};
 ghost use Rattle.semantics.specs.Joins.{IsJoin, IsPartialJoin};
@@ -19,26 +21,30 @@ use std::random::RandomSource;
 use std::thread::Threads;
 use tables::{Executor, HashSeed, Parallel, Partial};
 
-/// Joins the parts that a reader gives, one behind the other: writes the report over all their inputs to `out` and
-/// flushes it, and then the list of refused lines to `err` and flushes it. This is what `run` writes of the inputs,
-/// one behind the other, each with its last line ended; the lines of each part are numbered behind those of the parts
-/// before it. As many threads as there are workers, the calling one among them, put the groups together and make the
-/// report. It answers how many lines and how many refused lines the inputs have. Nothing is written before all parts
+/// Joins the parts that a reader gives, one behind the other: writes the report over all their
+/// inputs to `out` and flushes it, and then the list of refused lines to `err` and flushes it. This
+/// is what `run` writes of the inputs, one behind the other, each with its last line ended; the
+/// lines of each part are numbered behind those of the parts before it. As many threads as there
+/// are workers, the calling one among them, put the groups together and make the report. It answers
+/// how many lines and how many refused lines the inputs have. Nothing is written before all parts
 /// were read.
 ///
-/// Example: with the plan of `SELECT SUM(q) AS s FROM lines` under `q:int`, and as the input the part of the one line
-/// `{"q":5}` and behind it that of `{"q":2}`, `run_join(&rt, alloc, &plan, options, input, &mut out, &mut err)`,
-/// where it is done, answers `Done { lines: 2, refused: 0 }`; the lines `s` and `7` were written to `out`, and
-/// nothing to `err`.
+/// Example: with the plan of `SELECT SUM(q) AS s FROM lines` under `q:int`, and as the input the
+/// part of the one line `{"q":5}` and behind it that of `{"q":2}`,
+/// `run_join(&rt, alloc, &plan, options, input, &mut out, &mut err)`, where it is done, answers
+/// `Done { lines: 2, refused: 0 }`; the lines `s` and `7` were written to `out`, and nothing to
+/// `err`.
 ///
 /// # Errors
 ///
-/// `Parts` where what was read is no parts of the columns and the query, one behind the other, with the first fault:
-/// then nothing was written. Of inputs it refuses the parts only where there is none, where the inputs have 2^63 lines
-/// or more together, or where the columns or the canonical query have more than 1,000,000 bytes as strings of JSON.
-/// `Run` where the join fails as a run does: by `Reading`, `OutOfMemory` or `TooManyRefused`, and nothing was written;
-/// by `WritingReport`, and a beginning of the report was written, and nothing of the list; or by `WritingRefused`, and
-/// the report was written, and a beginning of the list. It never answers `ThreadNotStarted`.
+/// `Parts` where what was read is no parts of the columns and the query, one behind the other, with
+/// the first fault: then nothing was written. Of inputs it refuses the parts only where there is
+/// none, where the inputs have 2^63 lines or more together, or where the columns or the canonical
+/// query have more than 1,000,000 bytes as strings of JSON. `Run` where the join fails as a run
+/// does: by `Reading`, `OutOfMemory` or `TooManyRefused`, and nothing was written; by
+/// `WritingReport`, and a beginning of the report was written, and nothing of the list; or by
+/// `WritingRefused`, and the report was written, and a beginning of the list. It never answers
+/// `ThreadNotStarted`.
 pub fn run_join<R: Read + Drop, O: Write, E: Write, H: Threads + RandomSource + Sync>(
     rt: &H,
     alloc: Global,
@@ -65,21 +71,24 @@ pub fn run_join<R: Read + Drop, O: Write, E: Write, H: Threads + RandomSource + 
     write_whole(&parallel, alloc, plan, whole, out, err).map_err(JoinFault::Run)
 }
 
-/// Joins the parts that a reader gives, one behind the other, to one: writes the part of all their inputs to `out`
-/// and flushes it. This is what `run_partial` writes of the inputs, one behind the other, each with its last line
-/// ended. As many threads as there are workers, the calling one among them, put the groups together. It answers how
-/// many lines and how many refused lines the inputs have. Nothing is written before all parts were read.
+/// Joins the parts that a reader gives, one behind the other, to one: writes the part of all their
+/// inputs to `out` and flushes it. This is what `run_partial` writes of the inputs, one behind the
+/// other, each with its last line ended. As many threads as there are workers, the calling one
+/// among them, put the groups together. It answers how many lines and how many refused lines the
+/// inputs have. Nothing is written before all parts were read.
 ///
-/// Example: with the plan of `SELECT SUM(q) AS s FROM lines` under `q:int`, and as the input the part of the one line
-/// `{"q":5}` and behind it that of `{"q":2}`, `join_partial(&rt, alloc, &plan, options, input, &mut out)`, where it is done,
-/// answers `Done { lines: 2, refused: 0 }`, and the part of both lines was written to `out`.
+/// Example: with the plan of `SELECT SUM(q) AS s FROM lines` under `q:int`, and as the input the
+/// part of the one line `{"q":5}` and behind it that of `{"q":2}`,
+/// `join_partial(&rt, alloc, &plan, options, input, &mut out)`, where it is done, answers
+/// `Done { lines: 2, refused: 0 }`, and the part of both lines was written to `out`.
 ///
 /// # Errors
 ///
-/// `Parts` where what was read is no parts of the columns and the query, one behind the other, with the first fault:
-/// then nothing was written. It refuses parts of inputs only where `run_join` may. `Run` where the join fails as a run
-/// to a part does: by `Reading`, `OutOfMemory` or `TooManyRefused`, and nothing was written; or by `WritingPart`, and a
-/// beginning of the part was written. It never answers `ThreadNotStarted`.
+/// `Parts` where what was read is no parts of the columns and the query, one behind the other, with
+/// the first fault: then nothing was written. It refuses parts of inputs only where `run_join` may.
+/// `Run` where the join fails as a run to a part does: by `Reading`, `OutOfMemory` or
+/// `TooManyRefused`, and nothing was written; or by `WritingPart`, and a beginning of the part was
+/// written. It never answers `ThreadNotStarted`.
 pub fn join_partial<R: Read + Drop, O: Write, H: Threads + RandomSource + Sync>(
     rt: &H,
     alloc: Global,
@@ -114,7 +123,8 @@ fn seed_of_join<H: RandomSource>(rt: &H) -> Result<HashSeed, JoinFault>
     }
 }
 
-/// The result over all inputs whose parts a reader gives, if not more of their lines are refused than the options allow.
+/// The result over all inputs whose parts a reader gives, if not more of their lines are refused
+/// than the options allow.
 fn join_within<R: Read + Drop, X: Executor>(
     alloc: Global,
     plan: &Plan,

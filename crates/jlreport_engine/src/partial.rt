@@ -1,4 +1,5 @@
 //! A run to a part: from a reader to the text of the partial result.
+
 ghost use Rattle.std.specs.Prelude.{◌≡◌, ◌≢◌, ℕ, List, Option, IfErr};
 ghost use Rattle.semantics.specs.Joins.{IsPartialRun};
 ghost use Rattle.semantics.specs.Run.{IsWithin};
@@ -19,21 +20,24 @@ use std::sync::Wait;
 use std::thread::Threads;
 use tables::Partial;
 
-/// Works on what a reader gives as `run` does, but writes the part of it to `out` and flushes it, in place of the report
-/// and the list of refused lines: `run_join` writes these of that part, alone or among others. The part does not depend
-/// on the number of workers, on the size of a piece or on which thread works on which piece. It answers how many lines
-/// and how many refused lines there are. Nothing is written before all of the input was read.
+/// Works on what a reader gives as `run` does, but writes the part of it to `out` and flushes it,
+/// in place of the report and the list of refused lines: `run_join` writes these of that part,
+/// alone or among others. The part does not depend on the number of workers, on the size of a piece
+/// or on which thread works on which piece. It answers how many lines and how many refused lines
+/// there are. Nothing is written before all of the input was read.
 ///
-/// Example: with the plan of `SELECT SUM(q) AS s FROM lines` under `q:int`, and the one line `{"q":5}` as the input,
-/// `run_partial(&rt, alloc, &plan, options, input, &mut out)`, where it is done, answers `Done { lines: 1, refused: 0 }`; a
-/// part was written to `out`, whose first line is `"jlreport part 1"` in its quotes.
+/// Example: with the plan of `SELECT SUM(q) AS s FROM lines` under `q:int`, and the one line
+/// `{"q":5}` as the input, `run_partial(&rt, alloc, &plan, options, input, &mut out)`, where it is
+/// done, answers `Done { lines: 1, refused: 0 }`; a part was written to `out`, whose first line is
+/// `"jlreport part 1"` in its quotes.
 ///
 /// # Errors
 ///
-/// `Reading` where a read fails, the system gives no random bytes or the input has 2^63 bytes or more, `OutOfMemory` where memory runs out,
-/// `ThreadNotStarted` where a thread cannot be started, which one worker never answers, `TooManyRefused` where more
-/// lines are refused than the options allow: then nothing was written. `WritingPart` where a write or the flush of
-/// the part fails: then a beginning of it was written.
+/// `Reading` where a read fails, the system gives no random bytes or the input has 2^63 bytes or
+/// more, `OutOfMemory` where memory runs out, `ThreadNotStarted` where a thread cannot be started,
+/// which one worker never answers, `TooManyRefused` where more lines are refused than the options
+/// allow: then nothing was written. `WritingPart` where a write or the flush of the part fails:
+/// then a beginning of it was written.
 pub fn run_partial<R: Read + Drop + Send, O: Write, H: Threads + Wait + RandomSource + Sync>(
     rt: &H,
     alloc: Global,
@@ -53,8 +57,8 @@ pub fn run_partial<R: Read + Drop + Send, O: Write, H: Threads + Wait + RandomSo
     write_whole_part(alloc, plan, whole, out)
 }
 
-/// Writes the part that a result is, and flushes it. It does so as a run to a part over the input that the result is
-/// known to stand for, if not more lines are refused than the limit.
+/// Writes the part that a result is, and flushes it. It does so as a run to a part over the input
+/// that the result is known to stand for, if not more lines are refused than the limit.
 pub(crate) fn write_whole_part<O: Write>(
     alloc: Global,
     plan: &Plan,

@@ -1,4 +1,5 @@
 //! A run: from a reader to the report and the list of refused lines.
+
 ghost use Rattle.std.specs.Prelude.{◌≡◌, ◌≢◌, ℕ, List, Option, IfErr, IfOk};
 ghost use Rattle.tables.specs.Partials.{StandsForInput};
 ghost use Rattle.tables.specs.Sound.{IsSoundUnder};
@@ -26,7 +27,8 @@ use tables::{Executor, Groups, Parallel, Partial, Serial, sound_law};
 struct Texts {
     /// The report.
     report: Vec<u8>,
-    /// The groups, and the refused lines: the memory is given back once all is written, so that nobody waits for that.
+    /// The groups, and the refused lines: the memory is given back once all is written, so that
+    /// nobody waits for that.
     groups: Groups,
     /// What the list of refused lines is written through.
     buffer: Vec<u8>,
@@ -48,12 +50,12 @@ struct Texts {
 ///
 /// # Errors
 ///
-/// `Reading` where a read fails, the system gives no random bytes or the input has 2^63 bytes or more, `OutOfMemory` where memory runs
-/// out, `ThreadNotStarted` where a thread cannot be started, which one worker never answers,
-/// `TooManyRefused` where more lines are refused than the options allow: then nothing was written.
-/// `WritingReport` where a write or the flush of the report fails: then a beginning of it was
-/// written, and nothing of the list. `WritingRefused` where a write or the flush of the list fails:
-/// then the report was written, and a beginning of the list.
+/// `Reading` where a read fails, the system gives no random bytes or the input has 2^63 bytes or
+/// more, `OutOfMemory` where memory runs out, `ThreadNotStarted` where a thread cannot be started,
+/// which one worker never answers, `TooManyRefused` where more lines are refused than the options
+/// allow: then nothing was written. `WritingReport` where a write or the flush of the report fails:
+/// then a beginning of it was written, and nothing of the list. `WritingRefused` where a write or
+/// the flush of the list fails: then the report was written, and a beginning of the list.
 pub fn run<R: Read + Drop + Send, O: Write, E: Write, H: Threads + Wait + RandomSource + Sync>(
     rt: &H,
     alloc: Global,
@@ -81,8 +83,8 @@ pub fn run<R: Read + Drop + Send, O: Write, E: Write, H: Threads + Wait + Random
     write_whole(&parallel, alloc, plan, whole, out, err)
 }
 
-/// Does what `run` does on the calling thread, without a thread of its own. The number of workers is
-/// not looked at.
+/// Does what `run` does on the calling thread, without a thread of its own. The number of workers
+/// is not looked at.
 ///
 /// Example: with the plan of `SELECT COUNT(*) AS n FROM lines`, and an input without a byte,
 /// `run_alone(alloc, &plan, options, input, &mut out, &mut err)`, where it is done, answers
@@ -110,8 +112,8 @@ pub fn run_alone<R: Read + Drop, O: Write, E: Write>(
     write_whole(&Serial, alloc, plan, whole, out, err)
 }
 
-/// Writes the report and the list of refused lines by a result. It does so as a run over the input that the result is
-/// known to stand for, if not more lines are refused than the limit.
+/// Writes the report and the list of refused lines by a result. It does so as a run over the input
+/// that the result is known to stand for, if not more lines are refused than the limit.
 pub(crate) fn write_whole<X: Executor, O: Write, E: Write>(
     executor: &X,
     alloc: Global,
@@ -148,8 +150,8 @@ pub(crate) fn write_whole<X: Executor, O: Write, E: Write>(
     ) {
         return Err(fault);
     }
-    // The two large pieces of memory go back before the many small ones: a large one has the allocator look at each small
-    // one that lies with it.
+    // The two large pieces of memory go back before the many small ones: a large one has the
+    // allocator look at each small one that lies with it.
     drop(report);
     drop(buffer);
     groups.give_back(executor, alloc);

@@ -1,11 +1,13 @@
 //! The seed of a run.
+
 ghost use Rattle.std.specs.Prelude.{◌≡◌, IfErr};
 
 use semantics::RunFault;
 use std::random::RandomSource;
 use tables::HashSeed;
 
-/// A seed by chance, by which a run hashes its groups, so that whoever writes the lines cannot know which of them meet.
+/// A seed by chance, by which a run hashes its groups, so that whoever writes the lines cannot know
+/// which of them meet.
 ///
 /// # Errors
 ///

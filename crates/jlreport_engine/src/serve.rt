@@ -1,4 +1,5 @@
 //! What the program does once its words are read.
+
 ghost use Rattle.std.specs.Prelude.{◌≡◌, ◌<◌, [], ℕ, List, Err, IfErr, IfOk, IsOk, MatchResult, Ok, OnOk, true};
 ghost use Rattle.std.specs.Io.KnownBytes.{Appends, Keeps};
 ghost use Rattle.semantics.specs.Columns.{schema_of};
@@ -25,13 +26,13 @@ use std::thread::Threads;
 use values::Schema;
 
 /// Does what the words ask for, and answers the status that the program ends with: 0 where no line
-/// is refused, where a part is written, or where help, the version or an explanation is asked for; 1
-/// where some lines are refused; 2 where the words, the schema or the query are refused; 3 where the
-/// file cannot be opened or read or a text cannot be written; 4 where memory runs out or a thread
-/// cannot be started; 5 where more lines are refused than may be; 6 where parts are to be joined and
-/// what was read is no parts of the columns and the query. The report, a part, the explanation, help
-/// and the version go to `out`; the refused lines and what went wrong go to `err`. Where what went wrong cannot be written
-/// there, the status alone tells it.
+/// is refused, where a part is written, or where help, the version or an explanation is asked for;
+/// 1 where some lines are refused; 2 where the words, the schema or the query are refused; 3 where
+/// the file cannot be opened or read or a text cannot be written; 4 where memory runs out or a
+/// thread cannot be started; 5 where more lines are refused than may be; 6 where parts are to be
+/// joined and what was read is no parts of the columns and the query. The report, a part, the
+/// explanation, help and the version go to `out`; the refused lines and what went wrong go to
+/// `err`. Where what went wrong cannot be written there, the status alone tells it.
 ///
 /// `opener` answers the reader of the file of a path, or `None` where it cannot be opened. It has
 /// to be such that it can always be called; it is called once at most, only once the words, the
@@ -62,8 +63,8 @@ pub fn serve<
     ensures explains { IfOk asked.entry (λ settings. settings.explain ≡ true → result ≡ 0
         → Explains settings.columns.now settings.query.now (O.contents out.old)
         (O.contents out.new)) }
-    // The program ends as the settings ask for, or the words where there are none; it tells why where
-    // it is not done, and answers its status.
+    // The program ends as the settings ask for, or the words where there are none; it tells why
+    // where it is not done, and answers its status.
     ensures served { MatchResult asked.entry
         (λ settings. IsServed (λ end err_then. EndsBySettings F.FnMut opener.old opener.new
         R.remaining settings.columns.now settings.query.now settings.file.now settings.explain
@@ -99,7 +100,8 @@ fn plan_of(alloc: Global, settings: Settings<'_>) -> Result<Plan, Ending>
     Ok(plan)
 }
 
-/// Executes what is asked for: explains the query, or answers it over the file or joins the parts in it.
+/// Executes what is asked for: explains the query, or answers it over the file or joins the parts
+/// in it.
 fn execute<
     R: Read + Drop + Send,
     O: Write,
@@ -135,8 +137,9 @@ fn execute<
     }
 }
 
-/// Answers the query over the lines that a reader gives, or over those whose parts it gives, by a report or by a part, and
-/// answers the status. Where a part is written it is 0, whether or not lines are refused.
+/// Answers the query over the lines that a reader gives, or over those whose parts it gives, by a
+/// report or by a part, and answers the status. Where a part is written it is 0, whether or not
+/// lines are refused.
 fn answer<R: Read + Drop + Send, O: Write, E: Write, H: Threads + Wait + RandomSource + Sync>(
     rt: &H,
     alloc: Global,
@@ -160,7 +163,8 @@ fn answer<R: Read + Drop + Send, O: Write, E: Write, H: Threads + Wait + RandomS
     Ok(status_done(settings.partial, done))
 }
 
-/// The status where a report or a part is written: 1 where lines are refused of a report, and else 0.
+/// The status where a report or a part is written: 1 where lines are refused of a report, and else
+/// 0.
 fn status_done(partial: bool, done: Done) -> u8
     ensures { result ≡ done_status partial done }
 {
@@ -188,7 +192,8 @@ fn write_text<O: Write>(text: &[u8], out: &mut O) -> Result<u8, Ending>
     }
 }
 
-/// Answers words that are no settings: writes help or the version, where they ask for it, and else refuses them.
+/// Answers words that are no settings: writes help or the version, where they ask for it, and else
+/// refuses them.
 fn answer_words<O: Write>(alloc: Global, fault: WordsFault, out: &mut O) -> Result<u8, Ending>
     ensures { EndsByWords fault result (O.contents out.old) (O.contents out.new) }
 {
@@ -215,8 +220,8 @@ fn answer_clap<O: Write>(alloc: Global, error: clap::Error, out: &mut O) -> Resu
     }
 }
 
-/// The status of an end. Where it is none that is done, standard error is told why; where there is no memory for that text,
-/// it is told that.
+/// The status of an end. Where it is none that is done, standard error is told why; where there is
+/// no memory for that text, it is told that.
 fn tell<E: Write>(alloc: Global, end: Result<u8, Ending>, err: &mut E) -> u8
     ensures status { result ≡ last_status end }
     ensures told { IsTold end (E.contents err.old) (E.contents err.new) }
@@ -241,8 +246,8 @@ fn try_to_put<E: Write>(err: &mut E, text: &[u8])
     let _ = put_and_flush(err, text);
 }
 
-/// What is told of an ending: the text of `clap`, where it refused the words, and else `jlreport: `, what went wrong, and a
-/// line feed.
+/// What is told of an ending: the text of `clap`, where it refused the words, and else
+/// `jlreport: `, what went wrong, and a line feed.
 fn line_of(alloc: Global, ending: &Ending) -> Result<String, AllocError> {
     match ending {
         Ending::Words(WordsFault::Clap(error)) => error.to_string(alloc),

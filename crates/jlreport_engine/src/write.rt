@@ -1,4 +1,5 @@
 //! Writing texts whole.
+
 ghost use Rattle.std.specs.Prelude.{◌<◌, IfErr, IfOk, OnErr, OnOk, length, take};
 ghost use Rattle.std.specs.Io.KnownBytes.{Appends};
 ghost use Rattle.semantics.specs.Run.{AppendsBeginning};
@@ -63,7 +64,8 @@ pub(crate) fn put_and_flush<W: Write>(writer: &mut W, text: &[u8]) -> Result<(),
 /// A list of refused lines that has no more bytes is written at once.
 const LIST_BYTES: usize = 65_536;
 
-/// A buffer for the list of so many refused lines: it has room for all of it, or for 64 KiB and any one line more.
+/// A buffer for the list of so many refused lines: it has room for all of it, or for 64 KiB and any
+/// one line more.
 pub(crate) fn list_buffer(
     alloc: Global,
     schema: &Schema,
@@ -96,8 +98,9 @@ fn make_room<W: Write>(writer: &mut W, buffer: &mut Vec<u8>, room: usize) -> Res
     Ok(())
 }
 
-/// Writes a list of refused lines, and flushes it. It takes no memory: the lines wait in the buffer, which is written as
-/// soon as it may have no room for the next one. What is in the buffer before is gone.
+/// Writes a list of refused lines, and flushes it. It takes no memory: the lines wait in the
+/// buffer, which is written as soon as it may have no room for the next one. What is in the buffer
+/// before is gone.
 fn put_refused<W: Write>(
     writer: &mut W,
     buffer: &mut Vec<u8>,
@@ -113,7 +116,8 @@ fn put_refused<W: Write>(
     buffer.clear();
     for (number, fault) in refused {
         make_room(writer, buffer, room)?;
-        // The line has room, so it takes no memory; were memory refused all the same, a beginning of the list was written.
+        // The line has room, so it takes no memory; were memory refused all the same, a beginning
+        // of the list was written.
         if push_refused_line(buffer, schema, *number, *fault).is_err() {
             return Err(WriteFault);
         }
@@ -121,7 +125,8 @@ fn put_refused<W: Write>(
     put_and_flush(writer, buffer.as_slice())
 }
 
-/// Writes a report whole, and then a list of refused lines through a buffer, each flushed. It takes no memory.
+/// Writes a report whole, and then a list of refused lines through a buffer, each flushed. It takes
+/// no memory.
 pub(crate) fn put_both<O: Write, E: Write>(
     out: &mut O,
     report: &[u8],

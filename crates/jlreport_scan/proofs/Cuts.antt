@@ -152,7 +152,8 @@ ends-some : (b : ℕ) (bytes : List ℕ) → AreWholeLines (b ∷ bytes) → End
 ends-some b bytes (inl none) = absurd (let n = ap length none in omega (arith, n))
 ends-some b bytes (inr feed) = feed
 
--- a front of whole lines as one piece, and behind it the pieces that the rest is cut into, are pieces of both
+-- a front of whole lines as one piece, and behind it the pieces that the rest is cut into, are
+-- pieces of both
 pub cut-behind : (front rest : List ℕ) (ps : List Piece) → AreWholeLines front → IsCutInto rest (indexed_pieces rest ps) → IsCutInto (front ++ rest) (one_piece front ++ indexed_pieces_from 1 rest ps)
 cut-behind [] rest ps whole cut = record {
   in_order = λ k lt. omega (arith, indexes-rise rest 1 ps k (omega arith), indexes-rise rest 1 ps (k + 1) lt);

@@ -22,7 +22,8 @@ use Rattle.jlreport_scan.specs.Inside.Pieces.{IsUnder, StandsBehind}
 use Rattle.jlreport_scan.proofs.Cuts.{cut-behind}
 use Rattle.jlreport_scan.proofs.Tallies.{length-lines, refused-counted}
 
--- what a pool decides of a part and the pieces of the rest of an input behind it, with indexes from a first one on, under a plan
+-- what a pool decides of a part and the pieces of the rest of an input behind it, with indexes from
+-- a first one on, under a plan
 abbrev pub DecidesBehind : PartialState → PlannedQuery → ℕ → List ℕ → List Piece → ℕ → ℕ → Outcome Partial → Type 0
 DecidesBehind front plan first rest pieces n limit outcome =
     Decides (λ (partial : Partial). partial) (both front (total_of plan (piece_from first rest pieces) n))
@@ -69,7 +70,8 @@ under-of front p first b ps n limit count outcome same d =
 pub under-same : (count l m : ℕ) (outcome : Outcome Partial) → l ≡ m → IsUnder count l outcome → IsUnder count m outcome
 under-same count l m outcome e under = subst (λ (limit : ℕ). IsUnder count limit outcome) e under
 
--- what is Whole has as many refused lines as the front and the pieces, and these are within the limit
+-- what is Whole has as many refused lines as the front and the pieces, and these are within the
+-- limit
 pub refused-whole : (front : PartialState) (p : PlannedQuery) (first : ℕ) (b : List ℕ) (ps : List Piece) (n limit : ℕ) (outcome : Outcome Partial) (partial : Partial)
     → outcome ≡ Whole partial → DecidesBehind front p first b ps n limit outcome → (partial.refused ≡ front.refused + weights_of p b ps n) × (partial.refused ≤ limit)
 refused-whole front p first b ps n limit outcome partial is d =

@@ -4,7 +4,7 @@ use Rattle.jlreport_scan.specs.declared.fault.GatherFault.TheVariants as gatheri
 use Rattle.semantics.specs.declared.run_fault.RunFault.{RunFault}
 use Rattle.semantics.specs.declared.run_fault.RunFault.TheVariants as run
 
--- it says of the run what it says of the gathering
+-- It says of the run what it says of the gathering.
 abbrev pub fault_of_gathering : GatherFault → RunFault
 fault_of_gathering gathering.Reading = run.Reading
 fault_of_gathering gathering.OutOfMemory = run.OutOfMemory

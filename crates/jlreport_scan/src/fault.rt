@@ -1,4 +1,5 @@
 //! How the gathering of a result fails.
+
 ghost use Rattle.std.specs.Prelude.{◌≡◌};
 ghost use Rattle.jlreport_scan.specs.declared.fault.GatherFault.TheVariants.{OutOfMemory, Reading};
 ghost use Rattle.jlreport_scan.specs.Faults.{fault_of_pool};

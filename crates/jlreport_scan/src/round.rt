@@ -1,4 +1,5 @@
 //! The result of a query over one round of an input behind the rounds before it, by its pieces.
+
 ghost use Rattle.std.specs.Prelude.{◌≡◌, ◌+◌, ◌<◌, ◌≤◌, ◌⊎◌, ℕ, All, IfErr, IfOk, List, OnOk, length, vec_len};
 ghost use Rattle.semantics.specs.Records.{refused_lines};
 ghost use Rattle.lines.specs.Pieces.{AreWholeLines};
@@ -10,8 +11,8 @@ ghost use Rattle.jlreport_scan.specs.Inside.Faults.{IsWant, Refuses};
 ghost use Rattle.semantics.specs.Limits.{input_limit};
 ghost use Rattle.pool.specs.Limits.{most_hands};
 
-use crate::pieces::pieces_of;
 use crate::fault::GatherFault;
+use crate::pieces::pieces_of;
 use lines::Piece;
 use pool::{Book, Hand, Outcome, Share, fan_deal_onto};
 use query_plan::Plan;
@@ -60,10 +61,11 @@ pub(crate) struct RoundOutcome<L: Ledger> {
     pub(crate) shares: Vec<Share<L>>,
 }
 
-/// The result of a query over the rounds before and a round behind them, worked on in pieces by as many threads as there
-/// are shares, the calling one among them, which goes on with the result over the rounds before; and the shares. Those
-/// rounds are whole lines, and no share has reported more lines than were refused in them. The pieces come back, and the
-/// hands, in whose lists each piece is once.
+/// The result of a query over the rounds before and a round behind them, worked on in pieces by as
+/// many threads as there are shares, the calling one among them, which goes on with the result over
+/// the rounds before; and the shares. Those rounds are whole lines, and no share has reported more
+/// lines than were refused in them. The pieces come back, and the hands, in whose lists each piece
+/// is once.
 pub(crate) fn work_on_round<L: Ledger + Send + Sync, H: Threads + Wait + Sync>(
     scan: &Scan<'_, L, H>,
     before: Partial,

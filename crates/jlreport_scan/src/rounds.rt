@@ -1,4 +1,5 @@
 //! The result of a query over an input that is read in rounds.
+
 ghost use Rattle.std.specs.Prelude.{◌≡◌, ◌≢◌, ◌+◌, ◌<◌, ◌≤◌, ◌⊎◌, true, ℕ, All, IfErr, IfOk, List, Option, length, vec_len};
 ghost use Rattle.lines.specs.Rounds.{HasMoved};
 ghost use Rattle.semantics.specs.Records.{refused_lines};
@@ -26,16 +27,18 @@ use std::sync::ledger::{Blank, Ledger};
 use std::thread::{Threads, join};
 use tables::{Executor, HashSeed, Parallel, Partial, Serial};
 
-/// The most bytes of a round that is worked on by the calling thread alone: so few that they stay near the processor
-/// from the read to the last look at them, and no memory has to be touched for the first time beyond them.
+/// The most bytes of a round that is worked on by the calling thread alone: so few that they stay
+/// near the processor from the read to the last look at them, and no memory has to be touched for
+/// the first time beyond them.
 const LONGEST_ALONE: usize = 2_097_152;
 
-/// The result of a query over what a reader gives, worked on round by round on the calling thread. The records of all rounds
-/// go into one table. Neither the number of workers nor the length of a piece is looked at.
+/// The result of a query over what a reader gives, worked on round by round on the calling thread.
+/// The records of all rounds go into one table. Neither the number of workers nor the length of a
+/// piece is looked at.
 ///
 /// Example: with the plan of `SELECT COUNT(*) AS n FROM lines`, and an input of one empty line,
-/// `gather_alone(alloc, &plan, options, input)`, where there is memory for it, answers a result of which `lines()` and
-/// `refused()` are 1.
+/// `gather_alone(alloc, &plan, options, input)`, where there is memory for it, answers a result of
+/// which `lines()` and `refused()` are 1.
 ///
 /// # Errors
 ///
@@ -74,20 +77,21 @@ fn gather_by<X: Executor, R: Read + Drop>(
     Ok(whole)
 }
 
-/// The result of a query over what a reader gives, worked on round by round by as many threads as there are workers, the
-/// calling one among them. Where there are several, one thread more reads the next round meanwhile, if there may be one.
-/// With one worker it does what `gather_alone` does, and no thread is started. The seed is that by which the groups are
-/// hashed; the result does not depend on it.
+/// The result of a query over what a reader gives, worked on round by round by as many threads as
+/// there are workers, the calling one among them. Where there are several, one thread more reads
+/// the next round meanwhile, if there may be one. With one worker it does what `gather_alone` does,
+/// and no thread is started. The seed is that by which the groups are hashed; the result does not
+/// depend on it.
 ///
-/// Example: with the plan of `SELECT SUM(q) AS s FROM lines` under `q:int`, and the one line `{"q":5}` as the input,
-/// `gather(&rt, alloc, &plan, options, seed, input)`, where nothing is refused to it, answers a result of which `lines()` is 1
-/// and `refused()` is 0.
+/// Example: with the plan of `SELECT SUM(q) AS s FROM lines` under `q:int`, and the one line
+/// `{"q":5}` as the input, `gather(&rt, alloc, &plan, options, seed, input)`, where nothing is
+/// refused to it, answers a result of which `lines()` is 1 and `refused()` is 0.
 ///
 /// # Errors
 ///
-/// `Reading` where a read fails or the input has 2^63 bytes or more, `OutOfMemory` where memory runs out,
-/// `ThreadNotStarted` where a thread cannot be started, which one worker never answers, `TooManyRefused` where more lines
-/// are refused than the options allow.
+/// `Reading` where a read fails or the input has 2^63 bytes or more, `OutOfMemory` where memory
+/// runs out, `ThreadNotStarted` where a thread cannot be started, which one worker never answers,
+/// `TooManyRefused` where more lines are refused than the options allow.
 pub fn gather<R: Read + Drop + Send, H: Threads + Wait + Sync>(
     rt: &H,
     alloc: Global,
@@ -110,8 +114,8 @@ pub fn gather<R: Read + Drop + Send, H: Threads + Wait + Sync>(
     gather_reading_ahead::<Brand, R, H>(rt, alloc, plan, options, seed, reader, blank)
 }
 
-/// The same with one book of refused lines over all rounds, whose ledger is L, and with two buffers: while a round is
-/// worked on, the next one is read into the other.
+/// The same with one book of refused lines over all rounds, whose ledger is L, and with two
+/// buffers: while a round is worked on, the next one is read into the other.
 fn gather_reading_ahead<L: Ledger + Send + Sync, R: Read + Drop + Send, H: Threads + Wait + Sync>(
     rt: &H,
     alloc: Global,
@@ -190,8 +194,8 @@ fn first_ahead<L: Ledger, R: Read + Drop, H: Threads + Sync>(
     })
 }
 
-/// Works on the round that was read, and reads the next one meanwhile. What the work answers is looked at first, so that
-/// a read that fails tells nothing before the limit of refused lines does.
+/// Works on the round that was read, and reads the next one meanwhile. What the work answers is
+/// looked at first, so that a read that fails tells nothing before the limit of refused lines does.
 fn work_ahead<L: Ledger + Send + Sync, R: Read + Drop + Send, H: Threads + Wait + Sync>(
     scan: &Scan<'_, L, H>,
     ahead: Ahead<L, R>,
@@ -233,7 +237,8 @@ fn work_ahead<L: Ledger + Send + Sync, R: Read + Drop + Send, H: Threads + Wait 
     })
 }
 
-/// Reads on to the next round, which ends early where there is a demand for it, and hands the input back.
+/// Reads on to the next round, which ends early where there is a demand for it, and hands the input
+/// back.
 fn read_on<R: Read + Drop, D: Demand>(
     rounds: Rounds<R>,
     demand: &D,
@@ -255,8 +260,9 @@ struct RoundAndRead<L: Ledger, R: Read + Drop> {
     rounds: Rounds<R>,
 }
 
-/// Works on a round behind the rounds before it, as `work_on_round` does, and meanwhile reads the next one on a thread of
-/// its own, where the round may not be the last one. When the work is done, the next round ends early.
+/// Works on a round behind the rounds before it, as `work_on_round` does, and meanwhile reads the
+/// next one on a thread of its own, where the round may not be the last one. When the work is done,
+/// the next round ends early.
 fn work_and_read_on<L: Ledger + Send + Sync, R: Read + Drop + Send, H: Threads + Wait + Sync>(
     scan: &Scan<'_, L, H>,
     before: Partial,

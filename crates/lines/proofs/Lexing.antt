@@ -1,4 +1,5 @@
--- What the lexer of JSON answers at a place of a text, and what the rules of commas and colons make of it.
+-- What the lexer of JSON answers at a place of a text, and what the rules of commas and colons make
+-- of it.
 use Rattle.std.proofs.Common.{◌≡◌, ℕ, ◌+◌, Bool, true, false, List, [], ◌∷◌, length, get_or, refl, ap, ◌∙◌, arith}
 use Rattle.std.proofs.lemmas.List.{drop_all}
 use Rattle.json.specs.Token as json

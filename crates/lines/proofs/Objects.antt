@@ -50,11 +50,13 @@ pub text-taken : (bytes : List ℕ) (at quote : ℕ) (content : List ℕ) (s : S
 text-taken bytes at quote content s opens stands is =
     token-taken bytes kind.Text at (quote + 1) (value_of.Text s) (token.string content) (string content) (string-token bytes at quote content opens stands) (placed-string content) (λ rest. first-string 126 content rest) (ap (λ x. Some (datum.text x)) (sym is))
 
--- a loop over the members of an object whose tokens begin at `first` is at `now`, and those so far are `found`
+-- a loop over the members of an object whose tokens begin at `first` is at `now`, and those so far
+-- are `found`
 abbrev pub IsAmong : (first now : List Token) → Members → Type 0
 IsAmong first now found = IsAt (members (value 126)) first (λ ms. of_members ms no_members) now (λ ms. of_members ms found) (λ ms. ms)
 
--- The members of an object from behind its brace on up to a place where another one may stand, and the columns take these values of them.
+-- The members of an object from behind its brace on up to a place where another one may stand, and
+-- the columns take these values of them.
 pub record AreMembersUpTo (text : List ℕ) (from at : ℕ) (columns : List Column) (values : List Value) : Type 0 where
   pub within : at ≤ length text
   pub place : Place

@@ -1,4 +1,5 @@
--- What a line's record, or its fault, says of the schema: a record fits it, and a bad value is one of its columns.
+-- What a line's record, or its fault, says of the schema: a record fits it, and a bad value is one
+-- of its columns.
 use Rattle.std.proofs.Common.{◌≡◌, ◌<◌, ℕ, Bool, true, false, nat_lt, cond, List, [], ◌∷◌, ◌++◌, length, filter_map, Option, Some, None, Result, Ok, Err, refl, sym, ap, subst, ◌∙◌, ◌⊎◌, inl, inr}
 use Rattle.std.proofs.lemmas.List.{length-map}
 use Rattle.std.specs.Prelude.{position, unwrap_or}

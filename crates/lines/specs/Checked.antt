@@ -7,12 +7,12 @@ use Rattle.lines.specs.declared.utf8.Line.TheVariants.{Text}
 use Rattle.lines.specs.declared.utf8.Block.TheVariants as block
 use Rattle.lines.specs.declared.utf8.Line.TheVariants as line
 
--- the bytes of a line
+-- The bytes of a line.
 abbrev pub line_bytes : Line → List ℕ
 line_bytes (Text text) = text.now
 line_bytes (line.Bytes bytes) = bytes.now
 
--- the lines of a block that are left
+-- The lines of a block that are left.
 abbrev pub lines_left : Block → List (List ℕ)
 lines_left (Texts texts) = texts
 lines_left (block.Bytes others) = others

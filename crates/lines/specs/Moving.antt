@@ -7,7 +7,7 @@ use Rattle.lines.specs.declared.fault.ReadFault.{ReadFault}
 use Rattle.lines.specs.contracts.rounds.Rounds.{the_row}
 use Rattle.lines.specs.Rounds.{RoundsState, HasMoved}
 
--- whether a round was lent, or the fault
+-- Whether a round was lent, or the fault.
 abbrev pub was_lent : Result (Option (Bor (List ℕ))) ReadFault → Result Bool ReadFault
 was_lent (Ok lent) = Ok (is_some lent)
 was_lent (Err fault) = Err fault

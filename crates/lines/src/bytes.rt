@@ -1,4 +1,5 @@
 //! Reading a line as a record by its bytes, in one pass, without tokens of it.
+
 ghost use Rattle.std.specs.Prelude.{◌≡◌, ◌≤◌, Ok, Some, IfSome, length};
 ghost use Rattle.serde_json.specs.Data.{Members, no_members, object};
 ghost use Rattle.serde_json.specs.Read.{read};
@@ -6,9 +7,9 @@ ghost use Rattle.values.specs.Schema.{IsSchema, fields_of};
 ghost use Rattle.lines.specs.Inside.Members.{AreTaken};
 ghost use Rattle.semantics.specs.Records.{Fits, max_line_len, decode_line};
 
+mod member;
 mod members;
 mod name;
-mod member;
 
 use crate::columns::missing_values;
 use crate::spare::Spare;

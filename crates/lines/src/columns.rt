@@ -1,4 +1,5 @@
 //! The columns by their names, and the values that they take, put together member by member.
+
 ghost use Rattle.std.specs.Prelude.{◌≡◌, ◌≢◌, ◌<◌, ◌≤◌, All, length, set, IfSome, MatchOption};
 ghost use Rattle.serde_json.specs.Data.{no_members};
 ghost use Rattle.values.specs.Schema.{IsSchema, fields_of};

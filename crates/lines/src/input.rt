@@ -1,4 +1,5 @@
 //! A source, and the buffer that it is read into.
+
 ghost use Rattle.std.specs.Prelude.{◌≡◌, ◌+◌, ◌<◌, ◌≤◌, IfOk, OnOk};
 ghost use Rattle.lines.specs.Clip.{clipped_len};
 ghost use Rattle.lines.specs.Inside.Input.{ComesNear, GoesOn, HasAccount, HasAdded, HasBlock, IsReady, IsReadyFor};
@@ -10,7 +11,8 @@ use crate::line_buffer::{CLIPPED_LEN, GROWTH_STEP, LineBuffer};
 use crate::source::ReaderAccount;
 use std::io::Read;
 
-/// About the length of a block that ends early: the first one, so that work begins soon, and one that is waited for.
+/// About the length of a block that ends early: the first one, so that work begins soon, and one
+/// that is waited for.
 pub(crate) const EARLY_BLOCK_LEN: usize = 8_388_608;
 
 /// A source, and the buffer that it is read into.
@@ -37,8 +39,8 @@ impl<R: Read + Drop> Input<R> {
         Ok(count)
     }
 
-    /// Reads until the whole lines come near to `aim` bytes or the reader is at its end, and counts the bytes. It
-    /// answers whether the reader is at its end.
+    /// Reads until the whole lines come near to `aim` bytes or the reader is at its end, and counts
+    /// the bytes. It answers whether the reader is at its end.
     fn fill(&mut self, aim: usize) -> Result<bool, ReadFault>
         requires ready { IsReadyFor self.old aim }
         ensures account { HasAccount R.remaining self.old result self.new }
@@ -55,9 +57,10 @@ impl<R: Read + Drop> Input<R> {
         Ok(false)
     }
 
-    /// Reads as `fill` does, first for about `EARLY_BLOCK_LEN` bytes and then for more, until the whole lines come near
-    /// to `aim` bytes, or are waited for, or the reader is at its end. It answers whether the reader is at its end, and
-    /// to how many bytes the whole lines were to come near at last.
+    /// Reads as `fill` does, first for about `EARLY_BLOCK_LEN` bytes and then for more, until the
+    /// whole lines come near to `aim` bytes, or are waited for, or the reader is at its end. It
+    /// answers whether the reader is at its end, and to how many bytes the whole lines were to come
+    /// near at last.
     fn fill_for<D: Demand>(&mut self, aim: usize, demand: &D) -> Result<(bool, usize), ReadFault>
         requires ready { IsReadyFor self.old aim }
         ensures account { HasAccount R.remaining self.old result self.new }
@@ -75,8 +78,8 @@ impl<R: Read + Drop> Input<R> {
         Ok((ended, near))
     }
 
-    /// Releases the block before, and reads the next one: whole lines of about `aim` bytes. It answers whether it is the
-    /// last.
+    /// Releases the block before, and reads the next one: whole lines of about `aim` bytes. It
+    /// answers whether it is the last.
     pub(crate) fn read_block<D: Demand>(
         &mut self,
         aim: usize,

@@ -1,9 +1,8 @@
-//! An input of JSON lines: read in rounds of whole lines, cut into pieces that end with lines, split into lines, and
-//! read as records.
+//! An input of JSON lines: read in rounds of whole lines, cut into pieces that end with lines,
+//! split into lines, and read as records.
 #![tactic(auto)]
 
 mod bytes;
-mod utf8;
 mod columns;
 mod cut;
 mod demand;
@@ -19,8 +18,8 @@ mod spare;
 mod split;
 mod tokens;
 mod tree;
+mod utf8;
 
-pub use utf8::{CheckedLines, Line, checked_lines_of};
 pub use cut::cut;
 pub use demand::Demand;
 pub use fault::ReadFault;
@@ -31,3 +30,4 @@ pub use rounds::{Round, Rounds};
 pub use semantics::{LineFault, LineRefusal};
 pub use split::{Lines, lines_of};
 pub use tree::read_by_tree;
+pub use utf8::{CheckedLines, Line, checked_lines_of};

@@ -1,4 +1,5 @@
 //! The buffer of an input that is read: whole lines in front, and the bytes behind them.
+
 ghost use Rattle.std.specs.Prelude.{◌≡◌, ◌+◌, ◌-◌, ◌<◌, ◌≤◌, max, true, false, IsTrue, IsFalse, IfOk, length, take, vec_capacity, vec_len};
 ghost use Rattle.lines.specs.Pieces.{NoFeedBetween};
 ghost use Rattle.lines.specs.Clip.{clipped_len};
@@ -11,19 +12,22 @@ use std::mem;
 /// The length to which a line is clipped: with so many bytes it is too long already.
 pub(crate) const CLIPPED_LEN: usize = 1_048_577;
 
-/// The slack of a buffer: the bytes that may be read beyond a round, so that no read has to be small.
+/// The slack of a buffer: the bytes that may be read beyond a round, so that no read has to be
+/// small.
 pub(crate) const READ_SLACK: usize = 65_536;
 
 /// The bytes by which a buffer grows at a time, until it has its length.
 pub(crate) const GROWTH_STEP: usize = 1_048_576;
 
-/// The first `cut` bytes of the buffer are whole lines, and up to `filled` follow the bytes behind them.
+/// The first `cut` bytes of the buffer are whole lines, and up to `filled` follow the bytes behind
+/// them.
 #[derive(Drop)]
 pub(crate) struct LineBuffer {
     pub(crate) buffer: Vec<u8>,
     pub(crate) cut: usize,
     pub(crate) filled: usize,
-    /// The first bytes behind the whole lines are known to be the beginning of a line that is too long.
+    /// The first bytes behind the whole lines are known to be the beginning of a line that is too
+    /// long.
     pub(crate) full: bool,
     /// The greatest length of the whole lines; there is memory for 65,536 bytes more.
     pub(crate) size: usize,
@@ -136,8 +140,8 @@ impl LineBuffer {
         }
     }
 
-    /// Scans for the ends of lines, and clips the lines, until few bytes are open or the whole lines come near to `aim`
-    /// bytes.
+    /// Scans for the ends of lines, and clips the lines, until few bytes are open or the whole
+    /// lines come near to `aim` bytes.
     pub(crate) fn scan_lines(&mut self, aim: usize)
         requires held { IsHeld self.old }
         requires within { self.old.cut ≤ aim }
@@ -155,8 +159,8 @@ impl LineBuffer {
         }
     }
 
-    /// Makes room behind the bytes that are held, where there is none: the buffer gets longer, for which it has the
-    /// memory already. So memory that no byte comes to is never touched.
+    /// Makes room behind the bytes that are held, where there is none: the buffer gets longer, for
+    /// which it has the memory already. So memory that no byte comes to is never touched.
     pub(crate) fn make_room(&mut self)
         requires { self.old.filled < self.old.size + READ_SLACK }
         ensures front { KeepsFront self.old self.new }

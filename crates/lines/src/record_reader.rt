@@ -1,13 +1,14 @@
-//! Reading lines as records: by the bytes of a line, by its tokens where these leave a doubt, and by its JSON tree where
-//! the tokens leave one too.
+//! Reading lines as records: by the bytes of a line, by its tokens where these leave a doubt, and
+//! by its JSON tree where the tokens leave one too.
+
 ghost use Rattle.std.specs.Prelude.{◌≡◌, ◌<◌, ◌≤◌, IfErr, IfOk, IfSome, length};
 ghost use Rattle.semantics.specs.Records.{Fits, IsRefusal, max_line_len, decode_line};
 
 use crate::bytes::record_by_bytes;
-use crate::utf8::Line;
 use crate::spare::Spare;
 use crate::tokens::record_by_tokens;
 use crate::tree::read_by_tree;
+use crate::utf8::Line;
 use json::Scratch;
 use semantics::{LineFault, LineRefusal};
 use std::alloc::Global;
@@ -18,20 +19,20 @@ pub(crate) const MAX_LINE_LEN: usize = 1_048_576;
 
 /// Reads a line as a record: one value for each column of the schema, in order.
 ///
-/// A line is one JSON object (RFC 8259, section 4), without its line feed. A column takes the member of its name,
-/// of several with one name the last: NULL where there is no such member or it is `null`, and else a whole number
-/// from -2^63 to 2^63-1, a string or a truth value, by the column's type. Other members are ignored, whatever
-/// they hold.
+/// A line is one JSON object (RFC 8259, section 4), without its line feed. A column takes the
+/// member of its name, of several with one name the last: NULL where there is no such member or it
+/// is `null`, and else a whole number from -2^63 to 2^63-1, a string or a truth value, by the
+/// column's type. Other members are ignored, whatever they hold.
 ///
 /// Whoever reads many lines keeps a [`RecordReader`].
 ///
-/// Example: under `shop:text,cents:int` it answers of the line `{"cents":250,"shop":"Quay","till":3}` the record of
-/// the text `Quay` and the whole number 250.
+/// Example: under `shop:text,cents:int` it answers of the line
+/// `{"cents":250,"shop":"Quay","till":3}` the record of the text `Quay` and the whole number 250.
 ///
 /// # Errors
 ///
-/// `Fault` with the first fault that the line has, or `Memory` where there was no memory to read it. A line that
-/// is too long is refused as `TooLong`, whatever memory there is.
+/// `Fault` with the first fault that the line has, or `Memory` where there was no memory to read
+/// it. A line that is too long is refused as `TooLong`, whatever memory there is.
 pub fn read_record(alloc: Global, schema: &Schema, line: &[u8]) -> Result<Record, LineRefusal>
     ensures ok { IfOk result (λ «record». decode_line schema.now line.now ≡ Ok «record») }
     ensures refused { IfErr result (λ refusal.
@@ -47,10 +48,11 @@ pub fn read_record(alloc: Global, schema: &Schema, line: &[u8]) -> Result<Record
 
 /// Reads lines as records, one after another, in memory that it keeps from line to line.
 ///
-/// What it answers of a line is what [`read_record`] answers; the lines before make no difference, nor do the
-/// records that it is given back.
+/// What it answers of a line is what [`read_record`] answers; the lines before make no difference,
+/// nor do the records that it is given back.
 ///
-/// Example: a reader of many lines calls `read` for each, and `give_back` with a record that it is done with.
+/// Example: a reader of many lines calls `read` for each, and `give_back` with a record that it is
+/// done with.
 pub struct RecordReader {
     alloc: Global,
     scratch: Scratch,
@@ -77,7 +79,8 @@ impl RecordReader {
 
     /// A reader that keeps no memory yet. It takes none.
     ///
-    /// Example: `RecordReader::new(alloc).read(&schema, line)` does what `read_record(alloc, &schema, line)` does.
+    /// Example: `RecordReader::new(alloc).read(&schema, line)` does what
+    /// `read_record(alloc, &schema, line)` does.
     pub fn new(alloc: Global) -> RecordReader {
         RecordReader {
             alloc,
@@ -86,7 +89,8 @@ impl RecordReader {
         }
     }
 
-    /// Takes back a record that is done with: the next one is made in its memory. It may be any record.
+    /// Takes back a record that is done with: the next one is made in its memory. It may be any
+    /// record.
     ///
     /// Example: a loop over lines may end each turn with `reader.give_back(record)`.
     pub fn give_back(&mut self, done: Record) {
@@ -95,13 +99,13 @@ impl RecordReader {
 
     /// Reads one line as [`read_record`] does. The reader can be used again, also after an error.
     ///
-    /// Example: under `cents:int` it answers of the line `{"cents":5}` the record of the whole number 5, and of an
-    /// empty line `Fault(LineFault::NoJson)`.
+    /// Example: under `cents:int` it answers of the line `{"cents":5}` the record of the whole
+    /// number 5, and of an empty line `Fault(LineFault::NoJson)`.
     ///
     /// # Errors
     ///
-    /// `Fault` with the first fault that the line has, or `Memory` where there was no memory to read it. A line that
-    /// is too long is refused as `TooLong`, whatever memory there is.
+    /// `Fault` with the first fault that the line has, or `Memory` where there was no memory to
+    /// read it. A line that is too long is refused as `TooLong`, whatever memory there is.
     pub fn read(&mut self, schema: &Schema, line: &[u8]) -> Result<Record, LineRefusal>
         ensures ok { IfOk result (λ «record». decode_line schema.now line.now ≡ Ok «record») }
         ensures refused { IfErr result (λ refusal.
@@ -120,12 +124,13 @@ impl RecordReader {
 
     /// Reads one line as [`read`](Self::read) does, and tests no text again.
     ///
-    /// Example: a loop over the lines that [`checked_lines_of`](crate::checked_lines_of) gives hands each to it.
+    /// Example: a loop over the lines that [`checked_lines_of`](crate::checked_lines_of) gives
+    /// hands each to it.
     ///
     /// # Errors
     ///
-    /// `Fault` with the first fault that the line has, or `Memory` where there was no memory to read it. A line that
-    /// is too long is refused as `TooLong`, whatever memory there is.
+    /// `Fault` with the first fault that the line has, or `Memory` where there was no memory to
+    /// read it. A line that is too long is refused as `TooLong`, whatever memory there is.
     pub fn read_line(&mut self, schema: &Schema, line: Line<'_>) -> Result<Record, LineRefusal>
         ensures ok { IfOk result (λ «record».
             decode_line schema.now (line_bytes line.entry) ≡ Ok «record») }
@@ -166,11 +171,11 @@ impl RecordReader {
 
     /// Reads one line by its bytes alone, without tokens of it; `None` says nothing of the line.
     ///
-    /// It comes of each line of which [`read_by_tokens`](Self::read_by_tokens) answers `None`, and of one where
-    /// a name has an escape.
+    /// It comes of each line of which [`read_by_tokens`](Self::read_by_tokens) answers `None`, and
+    /// of one where a name has an escape.
     ///
-    /// Example: under `cents:int` it answers `None` of the line `{"\u0063ents":2}`, of which `read` answers the record
-    /// of the whole number 2.
+    /// Example: under `cents:int` it answers `None` of the line `{"\u0063ents":2}`, of which `read`
+    /// answers the record of the whole number 2.
     #[inline(always)]
     pub fn read_by_bytes(&mut self, schema: &Schema, line: &[u8]) -> Option<Record>
         ensures ok { IfSome result (λ «record». decode_line schema.now line.now ≡ Ok «record») }
@@ -181,12 +186,12 @@ impl RecordReader {
 
     /// Reads one line by its tokens alone, without its tree; `None` says nothing of the line.
     ///
-    /// It comes of each line that has a fault, of one where a member that its column does not take is
-    /// followed by another of its name, and where there is no memory. Which of these it is, [`read`](Self::read)
-    /// tells.
+    /// It comes of each line that has a fault, of one where a member that its column does not take
+    /// is followed by another of its name, and where there is no memory. Which of these it is,
+    /// [`read`](Self::read) tells.
     ///
-    /// Example: under `cents:int` it answers `None` of the line `{"cents":"x","cents":2}`, of which `read` answers the
-    /// record of the whole number 2.
+    /// Example: under `cents:int` it answers `None` of the line `{"cents":"x","cents":2}`, of which
+    /// `read` answers the record of the whole number 2.
     pub fn read_by_tokens(&mut self, schema: &Schema, line: &[u8]) -> Option<Record>
         ensures ok { IfSome result (λ «record». decode_line schema.now line.now ≡ Ok «record») }
         ensures fits { IfSome result (λ «record». Fits schema.now «record») }

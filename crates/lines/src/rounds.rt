@@ -1,4 +1,5 @@
 //! Reading an input in rounds of whole lines.
+
 ghost use Rattle.std.specs.Prelude.{◌≡◌, ◌<◌, [], IfOk};
 ghost use Rattle.lines.specs.Rounds.{HasMoved, rounds_at_start};
 ghost use Rattle.lines.specs.Clip.{clipped_len};
@@ -15,8 +16,8 @@ use std::marker::Model;
 
 /// A round that was handed out, or a spare buffer for one.
 ///
-/// Example: one thread works on a round that [`Rounds::hand_out`] gave it, while another reads on in the buffer of
-/// a second one.
+/// Example: one thread works on a round that [`Rounds::hand_out`] gave it, while another reads on
+/// in the buffer of a second one.
 #[derive(Drop)]
 pub struct Round {
     buffer: Vec<u8>,
@@ -40,7 +41,8 @@ impl Model for Round {
 }
 
 impl Round {
-    /// A spare buffer for rounds of at most `size` bytes. It takes memory for 65,536 bytes more than that.
+    /// A spare buffer for rounds of at most `size` bytes. It takes memory for 65,536 bytes more
+    /// than that.
     ///
     /// Example: `Round::new(alloc, 8_388_608)` answers a round without a byte.
     ///
@@ -65,14 +67,15 @@ impl Round {
     }
 }
 
-/// An input that is read in rounds of whole lines, of which no round is longer than is asked. Of each line at most
-/// 1,048,577 bytes are given, which is enough to tell that it is too long.
+/// An input that is read in rounds of whole lines, of which no round is longer than is asked. Of
+/// each line at most 1,048,577 bytes are given, which is enough to tell that it is too long.
 ///
-/// The rounds, joined, are the input with each line cut so; its line feeds stay. No round is empty, and each ends in
-/// a line feed but perhaps the last.
+/// The rounds, joined, are the input with each line cut so; its line feeds stay. No round is empty,
+/// and each ends in a line feed but perhaps the last.
 ///
-/// Example: of a line of 3,000,000 bytes and the line `ab` behind it, the rounds joined are the first 1,048,577 bytes
-/// of the long line, its line feed, and `ab` with its line feed, where it has one.
+/// Example: of a line of 3,000,000 bytes and the line `ab` behind it, the rounds joined are the
+/// first 1,048,577 bytes of the long line, its line feed, and `ab` with its line feed, where it has
+/// one.
 pub struct Rounds<R: Read + Drop> {
     input: Input<R>,
     /// How many bytes the next round has, about.
@@ -121,8 +124,8 @@ impl<R: Read + Drop> Model for Rounds<R> {
 }
 
 impl<R: Read + Drop> Rounds<R> {
-    /// An input whose rounds have at most `size` bytes. It takes the buffer, of 65,536 bytes more than that, and
-    /// reads nothing. It asks that `size` is 1,048,578 bytes or more.
+    /// An input whose rounds have at most `size` bytes. It takes the buffer, of 65,536 bytes more
+    /// than that, and reads nothing. It asks that `size` is 1,048,578 bytes or more.
     ///
     /// Example: of `Rounds::new(alloc, reader, 8_388_608)` no round has more than 8,388,608 bytes.
     ///
@@ -158,11 +161,12 @@ impl<R: Read + Drop> Rounds<R> {
         self.advance_for(&NoDemand)
     }
 
-    /// The same under a demand: where a worker waits for the round, it ends as soon as it has about 8,388,608 bytes.
+    /// The same under a demand: where a worker waits for the round, it ends as soon as it has about
+    /// 8,388,608 bytes.
     ///
-    /// Example: with rounds of 67,108,864 bytes, over an input of 1,000,000,000 line feeds, the second round has
-    /// 67,108,864 bytes less at most 1,048,577, and where `demand.is_waiting()` answers `true`, 8,388,608 less at most
-    /// 1,048,577.
+    /// Example: with rounds of 67,108,864 bytes, over an input of 1,000,000,000 line feeds, the
+    /// second round has 67,108,864 bytes less at most 1,048,577, and where `demand.is_waiting()`
+    /// answers `true`, 8,388,608 less at most 1,048,577.
     ///
     /// # Errors
     ///
@@ -195,28 +199,31 @@ impl<R: Read + Drop> Rounds<R> {
         }
     }
 
-    /// The round that the last call of [`Rounds::advance`] gave. It is empty before the first call, where the last one
-    /// gave none, and once the round was handed out.
+    /// The round that the last call of [`Rounds::advance`] gave. It is empty before the first call,
+    /// where the last one gave none, and once the round was handed out.
     pub fn round(&self) -> &[u8]
         ensures { result.now ≡ self.now.round }
     {
         self.input.held.lines()
     }
 
-    /// Whether it is known that the round that was given last is the last one. Then going on reads nothing.
+    /// Whether it is known that the round that was given last is the last one. Then going on reads
+    /// nothing.
     ///
-    /// Example: before the first round it answers `false`; once it answers `true`, `advance()` answers `Ok(false)`.
+    /// Example: before the first round it answers `false`; once it answers `true`, `advance()`
+    /// answers `Ok(false)`.
     pub fn is_over(&self) -> bool
         ensures { result ≡ self.now.over }
     {
         self.over
     }
 
-    /// Hands out the round that was given last, and goes on with the buffer of another one, whose bytes are lost.
-    /// It asks that the spare round was made for rounds of the same size. It takes no memory.
+    /// Hands out the round that was given last, and goes on with the buffer of another one, whose
+    /// bytes are lost. It asks that the spare round was made for rounds of the same size. It takes
+    /// no memory.
     ///
-    /// Example: after `let round = rounds.hand_out(spare)`, `round.bytes()` is what `rounds.round()` was, and
-    /// `rounds.round()` is empty.
+    /// Example: after `let round = rounds.hand_out(spare)`, `round.bytes()` is what
+    /// `rounds.round()` was, and `rounds.round()` is empty.
     pub fn hand_out(&mut self, spare: Round) -> Round
         requires { spare.size ≡ self.old.size }
         ensures round { result.bytes ≡ self.old.round }
@@ -238,10 +245,11 @@ impl<R: Read + Drop> Rounds<R> {
     ghost use Rattle.std.specs.Borrow.{sem};
     ghost use Rattle.lines.specs.Moving.{EndsAs};
 
-    /// The next round: whole lines, but perhaps the last line. `None` where there is none. It takes no memory.
+    /// The next round: whole lines, but perhaps the last line. `None` where there is none. It takes
+    /// no memory.
     ///
-    /// Example: over the bytes `ab\ncd` the rounds that it answers, joined, are these bytes, and then it answers
-    /// `Ok(None)`.
+    /// Example: over the bytes `ab\ncd` the rounds that it answers, joined, are these bytes, and
+    /// then it answers `Ok(None)`.
     ///
     /// # Errors
     ///

@@ -1,4 +1,5 @@
 //! A reader, and the account of what it answered.
+
 ghost use Rattle.std.specs.Prelude.{◌≡◌, ◌<◌, false, IsErr, IsOk, IfOk, length, take};
 ghost use Rattle.lines.specs.Inside.Input.{HasGot};
 ghost use Rattle.lines.specs.Rounds.{HasCause, HasRead};
@@ -36,8 +37,8 @@ impl<R: Read + Drop> ReaderAccount<R> {
 
     /// One read into the buffer from place `at` on. It answers how many bytes the reader gave.
     ///
-    /// No clause can name what the reader answered: that `erred` is set where it answered an error, and nowhere else, is
-    /// left to these lines.
+    /// No clause can name what the reader answered: that `erred` is set where it answered an error,
+    /// and nowhere else, is left to these lines.
     pub(crate) fn read(&mut self, buffer: &mut [u8], at: usize) -> Result<usize, ReadFault>
         requires room { at < length buffer.old }
         requires limit { self.old.taken < input_limit }

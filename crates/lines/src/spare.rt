@@ -1,4 +1,5 @@
 //! Memory of records that are done with, for the values of records to come.
+
 ghost use Rattle.std.specs.Prelude.{◌≡◌, ◌<◌, IfSome, length, set, string_bytes};
 
 use std::alloc::Global;

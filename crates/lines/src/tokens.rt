@@ -1,16 +1,18 @@
 //! Reading a line as a record by its tokens, without a tree of it.
+
 ghost use Rattle.std.specs.Prelude.{◌≡◌, ◌≤◌, Ok, IfSome, length};
 ghost use Rattle.semantics.specs.Records.{Fits, max_line_len, decode_line};
 
-mod skip;
 mod members;
+mod skip;
 
 use crate::spare::Spare;
 use json::{Reader, Scratch, Token};
 use member::take_members;
 use values::{Record, Schema};
 
-/// Reads a line as a record by its tokens; `None` says nothing of the line. Out of line, since few lines come here.
+/// Reads a line as a record by its tokens; `None` says nothing of the line. Out of line, since few
+/// lines come here.
 #[inline(never)]
 pub(crate) fn record_by_tokens(
     schema: &Schema,

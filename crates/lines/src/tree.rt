@@ -1,4 +1,5 @@
 //! Reading a line as a record by the tree of its JSON value, which is `serde_json`'s.
+
 ghost use Rattle.std.specs.Prelude.{◌≡◌, ◌≢◌, ◌<◌, ℕ, IfErr, IfOk, List, length, option_map, string_bytes};
 ghost use Rattle.serde_json.specs.Find.{get_member};
 ghost use Rattle.serde_json.specs.View.{members_view, view};
@@ -12,14 +13,16 @@ use serde_json::{Map, Value as Json};
 use std::alloc::Global;
 use values::{Column, Kind, Record, Schema, Value};
 
-/// Reads a line as [`read_record`](crate::read_record) does, by the tree of its JSON value, which takes memory.
+/// Reads a line as [`read_record`](crate::read_record) does, by the tree of its JSON value, which
+/// takes memory.
 ///
-/// Example: under `cents:int` it answers of the line `{"cents":"x","cents":2}` the record of the whole number 2.
+/// Example: under `cents:int` it answers of the line `{"cents":"x","cents":2}` the record of the
+/// whole number 2.
 ///
 /// # Errors
 ///
-/// `Fault` with the first fault that the line has, or `Memory` where there was no memory to read it. A line that
-/// is too long is refused as `TooLong`, whatever memory there is.
+/// `Fault` with the first fault that the line has, or `Memory` where there was no memory to read
+/// it. A line that is too long is refused as `TooLong`, whatever memory there is.
 #[inline(never)]
 pub fn read_by_tree(alloc: Global, schema: &Schema, line: &[u8]) -> Result<Record, LineRefusal>
     ensures ok { IfOk result (λ «record». decode_line schema.now line.now ≡ Ok «record») }
@@ -70,7 +73,8 @@ fn take_values(
     Ok(values)
 }
 
-/// Takes a column's value out of an object's members; `None` where the column does not take its member.
+/// Takes a column's value out of an object's members; `None` where the column does not take its
+/// member.
 fn take_value(column: &Column, members: &mut Map<String, Json>) -> Option<Value>
     ensures taken { option_map datum_of result ≡ datum_taken column.now.kind
         (member_of (members_view members.old.entries) (string_bytes column.now.name)) }
@@ -82,7 +86,8 @@ fn take_value(column: &Column, members: &mut Map<String, Json>) -> Option<Value>
     value_taken(column.kind, json)
 }
 
-/// Takes the member of a name out of an object, and leaves `null` there; a missing member is `null`.
+/// Takes the member of a name out of an object, and leaves `null` there; a missing member is
+/// `null`.
 fn take_member(members: &mut Map<String, Json>, name: &str) -> Json
     ensures taken { view result ≡ member_of (members_view members.old.entries) name.now }
     ensures others { (other : List ℕ) → other ≢ name.now

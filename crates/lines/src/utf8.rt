@@ -1,4 +1,5 @@
 //! The lines of bytes as texts, where they are UTF-8, which is tested for many lines at once.
+
 ghost use Rattle.std.specs.Prelude.{◌≡◌};
 ghost use Rattle.std.specs.Iterator.{YieldsFirstBy, YieldsFirstRef, item_count};
 ghost use Rattle.semantics.specs.Lines.{lines};
@@ -10,8 +11,8 @@ use memchr::memchr;
 use std::iter::FusedIterator;
 use std::marker::Model;
 
-/// How many bytes are tested at once, or some more, up to the end of a line. They are so few that they are still in the
-/// processor's cache when their lines are read.
+/// How many bytes are tested at once, or some more, up to the end of a line. They are so few that
+/// they are still in the processor's cache when their lines are read.
 const BLOCK_LEN: usize = 65_536;
 
 /// A line, as a text where it is known to be UTF-8.
@@ -23,8 +24,8 @@ pub enum Line<'a> {
     Bytes(&'a [u8]),
 }
 
-/// An iterator over lines, each as a text where it is known to be UTF-8. Contracts see it as the list of the lines that
-/// are left, as bytes.
+/// An iterator over lines, each as a text where it is known to be UTF-8. Contracts see it as the
+/// list of the lines that are left, as bytes.
 ///
 /// It takes no memory: a line is lent from the bytes that it was made of.
 ///
@@ -45,9 +46,11 @@ impl<'a> Model for CheckedLines<'a> {
     ghost view = { λ inside. lines_left inside.block ++ lines inside.rest.now };
 }
 
-/// The lines of the bytes, as [`lines_of`] gives them, each as a text where it is known to be UTF-8.
+/// The lines of the bytes, as [`lines_of`] gives them, each as a text where it is known to be
+/// UTF-8.
 ///
-/// Lines are tested in blocks. So a line comes as bytes where it, or another line of its block, is not UTF-8.
+/// Lines are tested in blocks. So a line comes as bytes where it, or another line of its block, is
+/// not UTF-8.
 ///
 /// Example: of the lines of `ab\n\ncd\n` each is a text: `ab`, an empty one, and `cd`.
 pub fn checked_lines_of(piece: &[u8]) -> CheckedLines<'_>

@@ -51,7 +51,8 @@ read-one text d m = ap (λ o. option_and_then of_json (option_and_then (λ p. if
 
 -- ---- items and members, one after another
 
--- a loop of the grammar that began at `first` is at `now`, with turns enough: if what it answers here means b under `rest`, what it answers from its beginning means `back b`
+-- a loop of the grammar that began at `first` is at `now`, with turns enough: if what it answers
+-- here means b under `rest`, what it answers from its beginning means `back b`
 pub record IsAt {A B : Type 0} (loop : ℕ → Parse A) (first : List Token) (whole : A → Option B) (now : List Token) (rest : A → Option B) (back : B → B) : Type 0 where
   pub turns : ℕ
   pub enough : length now ≤ turns

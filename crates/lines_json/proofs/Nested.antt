@@ -93,7 +93,8 @@ unclosed depth tokens rest d v = none_of (after_end_array tokens) (λ behind e. 
 
 -- ---- items
 
--- The items from one place to another are passed, and there the tokens go on as they do at a place of the grammar.
+-- The items from one place to another are passed, and there the tokens go on as they do at a place
+-- of the grammar.
 pub record IsAmongItems (text : List ℕ) (depth from : ℕ) (place : Place) (at : ℕ) : Type 0 where
   pub later : from ≤ at
   pub within : at ≤ length text

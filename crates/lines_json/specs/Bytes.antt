@@ -5,10 +5,10 @@ use Rattle.std.specs.Prelude.{ℕ, List, get_or}
 abbrev pub space : ℕ
 space = 32
 
--- the byte that begins and ends a string
+-- The byte that begins and ends a string.
 abbrev pub quotation_mark : ℕ
 quotation_mark = 34
 
--- the byte at a place, and a space past the end
+-- The byte at a place, and a space past the end.
 abbrev pub byte_or_space : List ℕ → ℕ → ℕ
 byte_or_space text at = get_or text at space

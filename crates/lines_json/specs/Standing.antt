@@ -9,7 +9,7 @@ use Rattle.serde_json.specs.Find.{as_integer}
 use Rattle.serde_json.specs.Read.{number_of}
 use Rattle.lines_json.specs.Meant.{IsValue}
 
--- the lexemes from a place on
+-- The lexemes from a place on.
 abbrev pub lexemes : List ℕ → ℕ → List Lexeme
 lexemes text at = lex between (drop at text)
 
@@ -23,7 +23,8 @@ pub record IsTokenAt (text : List ℕ) (at stop : ℕ) (t : Token) : Type 0 wher
 abbrev pub IsNoTokenAt : List ℕ → ℕ → Token → Type 0
 IsNoTokenAt text at t = is_space (get_or text at 32) ≡ false → (stop : ℕ) → ¬ IsTokenAt text at stop t
 
--- A string whose first byte stands at a place means these bytes, and the quote that closes it stands at `quote`.
+-- A string whose first byte stands at a place means these bytes, and the quote that closes it
+-- stands at `quote`.
 pub record IsStringOf (text : List ℕ) (from quote : ℕ) (bytes : List ℕ) : Type 0 where
   pub later : from ≤ quote
   pub within : quote < length text
@@ -39,8 +40,8 @@ IsPlainString text from quote = IsStringOf text from quote (take (quote - from) 
 abbrev pub IsWholeNumberAt : List ℕ → (at stop : ℕ) → ℤ → Type 0
 IsWholeNumberAt text at stop n = (digits : List ℕ) × IsTokenAt text at stop (number digits) × (option_and_then as_integer (number_of digits) ≡ Some n)
 
--- Wherever a value may begin, one stands at a place, nests at most `depth` deep, and ends before another one; unless a colon
--- stands there, since a string before a colon is a name.
+-- Wherever a value may begin, one stands at a place, nests at most `depth` deep, and ends before
+-- another one; unless a colon stands there, since a string before a colon is a name.
 pub record IsValueAt (text : List ℕ) (depth at stop : ℕ) : Type 0 where
   pub later : at < stop
   pub within : stop ≤ length text

@@ -1,4 +1,5 @@
 //! Single bytes of a text, and white space.
+
 ghost use Rattle.std.specs.Prelude.{◌≡◌, ◌+◌, ◌≤◌, drop, get_or, length};
 ghost use Rattle.std.specs.List.{prefix_len};
 ghost use Rattle.json.specs.Word.{is_space};
@@ -16,8 +17,8 @@ pub fn byte_at(text: &[u8], at: usize) -> u8
     if at < text.len() { text[at] } else { b' ' }
 }
 
-/// Where the white space ends that may stand at a place, RFC 8259, section 2 (`ws`): at the first byte that is none,
-/// or at the end of the text.
+/// Where the white space ends that may stand at a place, RFC 8259, section 2 (`ws`): at the first
+/// byte that is none, or at the end of the text.
 ///
 /// Example: of the text `{ }` it answers 2 at 1, and 0 at 0.
 #[inline(always)]

@@ -1,4 +1,5 @@
 //! Escapes in strings, RFC 8259, section 7.
+
 ghost use Rattle.std.specs.Prelude.{◌≡◌, ◌+◌, ◌<◌, ◌≤◌, IfSome, Some, length, true};
 ghost use Rattle.std.specs.Char.{digit_value, encode_utf8, is_digit};
 ghost use Rattle.json.specs.Lex.{in_string};
@@ -8,8 +9,8 @@ ghost use Rattle.lines_json.specs.Inside.Signs.{hexadecimal};
 
 use crate::bytes::byte_at;
 
-/// The character that the escape means whose backslash stands before a place, and where the escape ends; `None` says
-/// nothing of the text.
+/// The character that the escape means whose backslash stands before a place, and where the escape
+/// ends; `None` says nothing of the text.
 ///
 /// Example: of the text `r#""\n""#` it answers a line feed and 3 at 2.
 #[inline(never)]

@@ -1,8 +1,8 @@
-//! JSON by its bytes (RFC 8259), without tokens: where a value ends that begins at a place of a text, and what a string
-//! means.
+//! JSON by its bytes (RFC 8259), without tokens: where a value ends that begins at a place of a
+//! text, and what a string means.
 //!
-//! `None` says nothing of the text: whoever asks goes on by other means. But where `bool_at` or `null_end` answers it,
-//! no such name stands there.
+//! `None` says nothing of the text: whoever asks goes on by other means. But where `bool_at` or
+//! `null_end` answers it, no such name stands there.
 #![tactic(auto)]
 
 mod bytes;

@@ -1,4 +1,5 @@
 //! Numbers, RFC 8259, section 6.
+
 ghost use Rattle.std.specs.Prelude.{◌≡◌, ◌<◌, ◌≤◌, ◌+◌, ◌-◌, ◌==◌, ℕ, IfSome, IsTrue, List, Some, drop, is_some, length, take, true};
 ghost use Rattle.std.specs.Char.{is_ascii_digit};
 ghost use Rattle.std.specs.List.{prefix_len};
@@ -30,7 +31,8 @@ pub fn number_end(text: &[u8], at: usize) -> Option<usize>
     }
 }
 
-/// The whole number of 64 bits that stands at a place, and where it ends; `None` says nothing of the text.
+/// The whole number of 64 bits that stands at a place, and where it ends; `None` says nothing of
+/// the text.
 ///
 /// Example: of the text `[-12]` it answers `(-12, 4)` at 1.
 #[inline(always)]
@@ -44,7 +46,8 @@ pub fn whole_number_at(text: &[u8], at: usize) -> Option<(i64, usize)>
     }
 }
 
-/// Where the number ends that stands at a place, of whatever length, with a fraction or an exponent or none.
+/// Where the number ends that stands at a place, of whatever length, with a fraction or an exponent
+/// or none.
 #[inline(never)]
 fn long_number_end(text: &[u8], at: usize) -> Option<usize>
     requires { at ≤ length text.now }

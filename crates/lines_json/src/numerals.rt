@@ -1,4 +1,5 @@
 //! The numbers of a JSON text: which whole number one is, and whether it has a value at all.
+
 ghost use Rattle.std.specs.Prelude.{◌≡◌, ◌<◌, ◌==◌, Some, length, slice_index, option_and_then, is_some, IsTrue, IfSome, true, false};
 ghost use Rattle.fast_float.specs.Text.{minus};
 ghost use Rattle.serde_json.specs.Find.{as_integer};
@@ -37,7 +38,8 @@ fn whole_negative(numeral: &Numeral<'_>) -> Option<i64>
     if number < 0 { Some(number) } else { None }
 }
 
-/// Whether a number's text has a value, as one that is too large has none; `false` says nothing of the text.
+/// Whether a number's text has a value, as one that is too large has none; `false` says nothing of
+/// the text.
 #[inline(always)]
 pub fn has_value(text: &[u8]) -> bool
     ensures { IsTrue result → is_some (number_of text.now) ≡ true }

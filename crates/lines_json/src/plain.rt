@@ -1,4 +1,5 @@
 //! The plain text of strings, which has no quote, no backslash and no control byte.
+
 ghost use Rattle.std.specs.Prelude.{◌≡◌, ◌+◌, ◌<◌, ◌≤◌, length, map};
 ghost use Rattle.std.specs.List.{list_all};
 ghost use Rattle.std.specs.Simd.Lanes.{mask_l};
@@ -20,7 +21,8 @@ pub fn is_plain(text: &[u8]) -> bool
     plain_end(text, 0) == text.len()
 }
 
-/// Where the plain text ends that may stand at a place: at the first quote, backslash or control byte, or at the end of the text.
+/// Where the plain text ends that may stand at a place: at the first quote, backslash or control
+/// byte, or at the end of the text.
 ///
 /// Example: of the text `r#""ab""#` it answers 3 at 1.
 #[inline(always)]
@@ -39,7 +41,8 @@ pub(crate) fn plain_end(text: &[u8], from: usize) -> usize
     last_plain_end(text, at)
 }
 
-/// The same among the last bytes, fewer than 16, which are the upper ones of the last 16 of the text.
+/// The same among the last bytes, fewer than 16, which are the upper ones of the last 16 of the
+/// text.
 #[inline(never)]
 fn last_plain_end(text: &[u8], from: usize) -> usize
     requires within { from ≤ length text.now }

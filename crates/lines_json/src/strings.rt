@@ -1,4 +1,5 @@
 //! Strings, RFC 8259, section 7.
+
 ghost use Rattle.std.specs.Prelude.{◌≡◌, ◌≤◌, ℕ, ◌++◌, IfSome, List, length, string_bytes};
 ghost use Rattle.std.specs.Str.{IsCharBoundary};
 ghost use Rattle.lines_json.specs.Standing.{IsPlainString, IsStringOf};
@@ -7,7 +8,8 @@ use crate::bytes::byte_at;
 use crate::escapes::escape_at;
 use crate::plain::plain_end;
 
-/// The place of the quote that closes a string whose first byte stands at a place; `None` says nothing of the text.
+/// The place of the quote that closes a string whose first byte stands at a place; `None` says
+/// nothing of the text.
 ///
 /// Example: of the text `r#""a\n""#` it answers 4 at 1.
 #[inline(always)]
@@ -56,8 +58,9 @@ fn escaped_string_end(text: &[u8], from: usize) -> Option<usize>
     }
 }
 
-/// Pushes the content of a string, each escape as what it means, behind what stands in `content`. The string's first byte
-/// stands at a place, and the place of the quote that closes it is answered; `None` says nothing of the text.
+/// Pushes the content of a string, each escape as what it means, behind what stands in `content`.
+/// The string's first byte stands at a place, and the place of the quote that closes it is
+/// answered; `None` says nothing of the text.
 ///
 /// Example: of the text `r#""a\n""#` it pushes `a` and a line feed, and answers 4 at 1.
 #[inline(never)]

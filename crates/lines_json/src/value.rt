@@ -1,4 +1,5 @@
 //! Values, arrays and objects.
+
 ghost use Rattle.std.specs.Prelude.{◌≤◌, IfSome, length};
 ghost use Rattle.lines_json.specs.Inside.Contents.{AreItemsAt, AreMembersAt, IsNameAt};
 ghost use Rattle.lines_json.specs.Standing.{IsValueAt};
@@ -8,9 +9,11 @@ use crate::numbers::number_end;
 use crate::strings::string_end;
 use crate::words::{bool_at, null_end};
 
-/// Where the value ends that stands at a place and nests at most `depth` deep; `None` says nothing of the text.
+/// Where the value ends that stands at a place and nests at most `depth` deep; `None` says nothing
+/// of the text.
 ///
-/// Example: of the text `{"a":[1,{}]}` it answers 11 at 5 for a depth of 2, and `None` for a depth of 1.
+/// Example: of the text `{"a":[1,{}]}` it answers 11 at 5 for a depth of 2, and `None` for a depth
+/// of 1.
 #[cycle(value)]
 pub fn value_end(text: &[u8], at: usize, depth: usize) -> Option<usize>
     requires { at ≤ length text.now }
@@ -26,7 +29,8 @@ pub fn value_end(text: &[u8], at: usize, depth: usize) -> Option<usize>
     }
 }
 
-/// Where the array ends whose opening bracket stands before a place, and whose items nest at most `depth` deep.
+/// Where the array ends whose opening bracket stands before a place, and whose items nest at most
+/// `depth` deep.
 #[cycle(value)]
 fn array_end(text: &[u8], from: usize, depth: usize) -> Option<usize>
     requires { from ≤ length text.now }
@@ -47,7 +51,8 @@ fn array_end(text: &[u8], from: usize, depth: usize) -> Option<usize>
     }
 }
 
-/// Where the object ends whose opening brace stands before a place, and whose members nest at most `depth` deep.
+/// Where the object ends whose opening brace stands before a place, and whose members nest at most
+/// `depth` deep.
 #[cycle(value)]
 fn object_end(text: &[u8], from: usize, depth: usize) -> Option<usize>
     requires { from ≤ length text.now }
@@ -69,7 +74,8 @@ fn object_end(text: &[u8], from: usize, depth: usize) -> Option<usize>
     }
 }
 
-/// Where the value of the member stands whose name stands at a place; `None` says nothing of the text.
+/// Where the value of the member stands whose name stands at a place; `None` says nothing of the
+/// text.
 ///
 /// Example: of the text `{"a": 1}` it answers 6 at 1.
 #[inline(always)]

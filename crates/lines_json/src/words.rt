@@ -1,4 +1,5 @@
 //! The literal names of RFC 8259, section 3: `true`, `false` and `null`.
+
 ghost use Rattle.std.specs.Prelude.{
   ◌≡◌,
   ◌+◌,

@@ -1,4 +1,5 @@
--- The digits of whole numbers of any size: the definition has 64 digits at most, so that of a longer number the last 64 are written.
+-- The digits of whole numbers of any size: the definition has 64 digits at most, so that of a
+-- longer number the last 64 are written.
 use Rattle.std.proofs.Common.{◌≡◌, ℕ, ℤ, pos, negsuc, zero, suc, ◌+◌, ◌/◌, ◌%◌, ◌^◌, ◌<◌, ◌≤◌, ◌==◌, true, false, cond, List, [], ◌∷◌, length, drop, decimal, sym, ap, subst, ◌∙◌, arith, inl, inr}
 use Rattle.std.proofs.Math.Nat.{pow-suc}
 use Rattle.std.proofs.lemmas.Bool.{cases_lt, lt-ltb, ltb-true, ne_eqb}

@@ -9,7 +9,8 @@ use Rattle.semantics.specs.Parts.{line_of, text_of}
 
 -- ---- texts
 
--- a quote, a backslash, a line feed, the control character 1, and the character U+1F600, which has four bytes
+-- a quote, a backslash, a line feed, the control character 1, and the character U+1F600, which has
+-- four bytes
 odd : List ℕ
 odd = 34 ∷ 92 ∷ 10 ∷ 1 ∷ 240 ∷ 159 ∷ 152 ∷ 128 ∷ []
 

@@ -10,7 +10,8 @@ use Rattle.part_lines.specs.Inside.Known.{IsDifferentOf}
 
 -- ---- different values
 
--- each of these values is one of the different values behind the one before, and the first one behind the last of all before
+-- each of these values is one of the different values behind the one before, and the first one
+-- behind the last of all before
 abbrev pub AscendFrom : Kind → Option Datum → List Datum → Type 0
 AscendFrom k last [] = ⊤
 AscendFrom k last (d ∷ ds) = IsDifferentOf k last d × AscendFrom k (Some d) ds

@@ -1,4 +1,5 @@
--- Reading things one after the other, as a loop does: what was read before, and what is still read, are what is read in all.
+-- Reading things one after the other, as a loop does: what was read before, and what is still read,
+-- are what is read in all.
 use Rattle.std.proofs.Common.{◌≡◌, ℕ, suc, ◌-◌, ◌+◌, ◌≤◌, ◌<◌, List, [], ◌∷◌, ◌++◌, Option, Some, Result, Ok, Err, refl, sym, ap, ◌∙◌, append_assoc, append-nil, arith}
 use Rattle.part_lines.specs.Faults.{Fault}
 use Rattle.part_lines.specs.declared.fault.PartRefusal.{PartRefusal}

@@ -42,7 +42,8 @@ behind-behind ds es next rest s = let e : s.place + length ds + length es ≡ s.
 
 -- ---- what lines of values are read as
 
--- Where the next lines have these values, the reading gives this thing, and the lines behind them are left.
+-- Where the next lines have these values, the reading gives this thing, and the lines behind them
+-- are left.
 abbrev pub Reads : {A : Type 0} → (Stream → Result (A × Stream) Fault) → List Datum → A → Type 0
 Reads one ds a = (s : Stream) (ls rest : List (List ℕ)) → HaveValues ls ds → s.left ≡ ls ++ rest → one s ≡ Ok (a, behind ds rest s)
 

@@ -26,7 +26,8 @@ then_passed false kind s f Q h = tt
 abbrev pub IsRead : {A : Type 0} → A → List (List ℕ) → A × Stream → Type 0
 IsRead a rest read = (read.0 ≡ a) × (read.1.left ≡ rest)
 
--- Where the next lines are read as these values, the reading gives this thing, if it gives anything, and the lines behind them are left.
+-- Where the next lines are read as these values, the reading gives this thing, if it gives
+-- anything, and the lines behind them are left.
 abbrev pub ReadsBack : {A : Type 0} → (Stream → Result (A × Stream) Fault) → List Datum → A → Type 0
 ReadsBack one ds a = (s : Stream) (ls rest : List (List ℕ)) → AreReadAs ls ds → s.left ≡ ls ++ rest → IfOk (one s) (IsRead a rest)
 

@@ -35,8 +35,8 @@ pub record AreDifferentOf (k : Kind) (ds : List Datum) : Type 0 where
   pub known : AllByRecursion (λ d. d ≢ null) ds
   pub ascending : IsAscending value_order ds
 
--- A state of this kind, of a group of so many members: no more were counted or added, a sum is one of
--- numbers of 64 bits, and values are of their column.
+-- A state of this kind, of a group of so many members: no more were counted or added, a sum is one
+-- of numbers of 64 bits, and values are of their column.
 abbrev pub IsStateFor : ℕ → StateKind → FunctionState → Type 0
 IsStateFor members kind.Rows rows = ⊤
 IsStateFor members kind.Count (counted n) = n ≤ members
@@ -53,8 +53,8 @@ AreStatesFor members kinds states = AllZip (IsStateFor members) kinds states
 abbrev pub IsKeyFor : List Kind → Key → Type 0
 IsKeyFor columns key = AllZip Holds columns key
 
--- A group of this shape behind the last one, of no more members than are left, and of one at least where it
--- has a key by grouping columns.
+-- A group of this shape behind the last one, of no more members than are left, and of one at least
+-- where it has a key by grouping columns.
 pub record IsGroupFor (shape : ShapeForm) (last : Option Key) (left : ℕ) (g : EntryForm) : Type 0 where
   pub key : IsKeyFor shape.columns g.key
   pub above : IsAbove key_order last g.key
@@ -68,8 +68,8 @@ pub record IsGroupFor (shape : ShapeForm) (last : Option Key) (left : ℕ) (g : 
 abbrev pub AreReadAs : List (List ℕ) → List Datum → Type 0
 AreReadAs ls ds = AllZip (λ line d. IfSome (reading_of line) (λ e. e ≡ d)) ls ds
 
--- Where the next lines are read as those of these groups, and so many groups are read, it is these, and
--- the lines behind them are left.
+-- Where the next lines are read as those of these groups, and so many groups are read, it is these,
+-- and the lines behind them are left.
 abbrev pub AreReadAgain : ShapeForm → List EntryForm → Type 0
 AreReadAgain shape gs =
     (last : Option Key) (left : ℕ) (s : Stream) (ls rest : List (List ℕ)) → AreReadAs ls (groups_values gs)
@@ -89,8 +89,8 @@ abbrev pub AreGroupsFor : ShapeForm → Before → List EntryForm → Type 0
 AreGroupsFor shape before [] = ⊤
 AreGroupsFor shape before (g ∷ gs) = IsGroupFor shape before.last before.left g × AreGroupsFor shape (after before g) gs
 
--- Where the next lines have the values of these groups, these are read, and the lines behind them are
--- left.
+-- Where the next lines have the values of these groups, these are read, and the lines behind them
+-- are left.
 abbrev pub AreRead : ShapeForm → Before → List EntryForm → Type 0
 AreRead shape before gs =
     (s : Stream) (ls rest : List (List ℕ)) → HaveValues ls (groups_values gs) → s.left ≡ ls ++ rest

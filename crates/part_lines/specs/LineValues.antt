@@ -13,8 +13,8 @@ use Rattle.values.specs.declared.value.Value.{Value}
 use Rattle.part_lines.specs.Texts.{is_storable}
 use Rattle.semantics.specs.Parts.{value_text}
 
--- The value of a token: of a string its text, and of a number what its digits come to. (What `1.0` comes
--- to does not matter: no whole number is written so.) Brackets and names have none.
+-- The value of a token: of a string its text, and of a number what its digits come to. (What `1.0`
+-- comes to does not matter: no whole number is written so.) Brackets and names have none.
 abbrev pub token_value : Token → Option Datum
 token_value json.begin_object = None
 token_value json.end_object = None
@@ -37,8 +37,8 @@ tokens_value (token ∷ next ∷ more) = None
 abbrev pub if_spelled : List ℕ → Datum → Option Datum
 if_spelled line d = if is_storable d && bytes_eq (value_text d) line then Some d else None
 
--- The value of a line. A value has one spelling: a line with a space, a sign, a digit or an escape that
--- its value's text has not is the line of no value.
+-- The value of a line. A value has one spelling: a line with a space, a sign, a digit or an escape
+-- that its value's text has not is the line of no value.
 abbrev pub line_value : List ℕ → Option Datum
 line_value line = option_and_then (if_spelled line) (tokens_value (tokens line))
 

@@ -21,8 +21,8 @@ use Rattle.part_lines.specs.declared.shape.StateKind.{StateKind}
 use Rattle.part_lines.specs.declared.shape.StateKind.TheVariants as kind
 use Rattle.part_lines.specs.Groups.{ShapeForm}
 
--- Where a call is refused, the reading has that fault; where a read failed, or without memory, nothing
--- is known of it.
+-- Where a call is refused, the reading has that fault; where a read failed, or without memory,
+-- nothing is known of it.
 abbrev pub Refuses : {Y : Type 0} → PartRefusal → Result Y Fault → Type 0
 Refuses (refusal.Fault fault) read = read ≡ Err (fault_of fault)
 Refuses refusal.Reading read = ⊤
@@ -79,7 +79,8 @@ value_at s = do
   d ← value_or_fault (reading_of line.0) line.1
   Ok (d, line.1)
 
--- Whether a column of this type holds a value: NULL, or a value of the type, a whole number in 64 bits.
+-- Whether a column of this type holds a value: NULL, or a value of the type, a whole number in 64
+-- bits.
 abbrev pub is_held : Kind → Datum → Bool
 is_held k null = true
 is_held type.Int (whole n) = is_int64 n
@@ -160,8 +161,8 @@ counted_at members s = do
   n ← count_within members s
   Ok (counted n.0, n.1)
 
--- Whether so many whole numbers of 64 bits can have this sum: each is from -2^63 to 2^63 - 1. (A sum below
--- 0 is -(s + 1).)
+-- Whether so many whole numbers of 64 bits can have this sum: each is from -2^63 to 2^63 - 1. (A
+-- sum below 0 is -(s + 1).).
 abbrev pub is_sum_of : ℕ → ℤ → Bool
 is_sum_of count (pos s) = nat_le s (count * (2 ^ 63 - 1))
 is_sum_of count (negsuc s) = nat_lt s (count * 2 ^ 63)
@@ -220,8 +221,8 @@ next_key_at columns last s = do
   above ← passed (is_above key_order last key.0) out_of_order key.1
   Ok key
 
--- Whether a group of such a key can have so many members. With grouping columns a member gave the group its
--- key; without them there is one group, which may have none.
+-- Whether a group of such a key can have so many members. With grouping columns a member gave the
+-- group its key; without them there is one group, which may have none.
 abbrev pub can_have_members : List Kind → ℕ → Bool
 can_have_members [] n = true
 can_have_members (k ∷ ks) n = nat_lt 0 n

@@ -1,4 +1,5 @@
 //! What is checked of values where they come.
+
 ghost use Rattle.std.specs.Prelude.{◌≡◌, ◌≢◌, IsOk, IsTrue, OnOk, not};
 ghost use Rattle.semantics.specs.Groups.{key_order};
 ghost use Rattle.semantics.specs.Records.{Holds};
@@ -16,8 +17,8 @@ use values::Value;
 
 /// The refusal by a fault of this kind at the line that was read last.
 ///
-/// Example: where the second line was read last, `fault_at(&source, PartsFaultKind::OutOfRange)` is the fault `OutOfRange`
-/// at the line 2.
+/// Example: where the second line was read last, `fault_at(&source, PartsFaultKind::OutOfRange)` is
+/// the fault `OutOfRange` at the line 2.
 pub fn fault_at<S: ValueReader>(source: &S, kind: PartsFaultKind) -> PartRefusal
     ensures { S.known source.now → result ≡ fault_at_line (S.stream source.now).place kind }
 {
@@ -29,8 +30,9 @@ pub fn fault_at<S: ValueReader>(source: &S, kind: PartsFaultKind) -> PartRefusal
 
 /// Nothing where a test is passed, and else a fault of this kind at the line that was read last.
 ///
-/// Example: where the second line was read last, `check(&source, 3 <= 2, PartsFaultKind::OutOfRange)` answers the fault
-/// `OutOfRange` at the line 2.
+/// Example: where the second line was read last,
+/// `check(&source, 3 <= 2, PartsFaultKind::OutOfRange)` answers the fault `OutOfRange` at the line
+/// 2.
 ///
 /// # Errors
 ///
@@ -52,7 +54,8 @@ pub fn check<S: ValueReader>(
     }
 }
 
-/// Whether a column of this type holds a value: NULL, or a value of the type, a whole number in 64 bits.
+/// Whether a column of this type holds a value: NULL, or a value of the type, a whole number in 64
+/// bits.
 pub(crate) fn is_held(kind: Kind, value: &Value) -> bool
     ensures test { result ≡ is_held kind (datum_of value.now) }
     ensures held { IsTrue result → Holds kind (datum_of value.now) }
@@ -91,7 +94,8 @@ pub(crate) fn is_sum_of(count: u64, sum: i128) -> bool
     least <= sum && sum <= most
 }
 
-/// Whether a group of such a key can have so many members: one at least, where there are grouping columns.
+/// Whether a group of such a key can have so many members: one at least, where there are grouping
+/// columns.
 pub(crate) fn can_have_members(columns: &[Kind], members: u64) -> bool
     ensures { result ≡ can_have_members columns.now members }
 {

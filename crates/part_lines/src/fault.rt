@@ -8,11 +8,12 @@ use std::alloc::{AllocError, AllocFailed};
 
 /// The first fault of a part, from the front.
 ///
-/// Example: of the lines `"Harbour"`, `-2` and `7`, read as a key of one text and two counts, it is `UnexpectedValue` at
-/// the line 2.
+/// Example: of the lines `"Harbour"`, `-2` and `7`, read as a key of one text and two counts, it is
+/// `UnexpectedValue` at the line 2.
 #[derive(Debug, PartialEq, Eq, Drop)]
 pub struct PartFault {
-    /// The number of the line, from 1. Where the lines end too early it is the number that the next one would have.
+    /// The number of the line, from 1. Where the lines end too early it is the number that the next
+    /// one would have.
     pub line: u64,
     /// What is wrong there.
     pub kind: PartsFaultKind,

@@ -1,12 +1,14 @@
-//! The lines of a part: values as lines of JSON (RFC 8259), groups as the values of a part, and both back.
+//! The lines of a part: values as lines of JSON (RFC 8259), groups as the values of a part, and
+//! both back.
 //!
-//! A value is one of JSON's primitive types: a string, a whole number, `true`, `false` or `null`. Each has one spelling, and no
-//! line feed or other control character is in it, so the texts of several values stand one behind the other, each on a line
-//! of its own.
+//! A value is one of JSON's primitive types: a string, a whole number, `true`, `false` or `null`.
+//! Each has one spelling, and no line feed or other control character is in it, so the texts of
+//! several values stand one behind the other, each on a line of its own.
 //!
-//! A part has its values on lines, each as a JSON text. What reads groups knows no byte of it: a [`ValueReader`] gives one value
-//! after the other, and each reader answers what is read of the lines, a thing or the first fault. What is read may be from
-//! anyone, so its types, its order and its ranges are checked where the values come.
+//! A part has its values on lines, each as a JSON text. What reads groups knows no byte of it: a
+//! [`ValueReader`] gives one value after the other, and each reader answers what is read of the
+//! lines, a thing or the first fault. What is read may be from anyone, so its types, its order and
+//! its ranges are checked where the values come.
 #![tactic(auto)]
 
 mod checks;

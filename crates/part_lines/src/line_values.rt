@@ -1,4 +1,5 @@
 //! Values, read from lines.
+
 ghost use Rattle.std.specs.Prelude.{◌≡◌, ◌≢◌, ℕ, List, IfOk, IfSome, MatchOption};
 ghost use Rattle.std.specs.Str.{bytes_eq};
 ghost use Rattle.json.specs.Print.{quoted};
@@ -83,8 +84,8 @@ fn literal_value(line: &str) -> Option<Value>
     }
 }
 
-/// The whole number of a line, if it has 128 bits and is written as numbers are: without a plus, a zero in front, a fraction
-/// or an exponent.
+/// The whole number of a line, if it has 128 bits and is written as numbers are: without a plus, a
+/// zero in front, a fraction or an exponent.
 fn read_number(line: &str) -> Option<Value>
     ensures { TellsAmong whole line.now result }
 {
@@ -112,8 +113,8 @@ fn read_string(
     }
 }
 
-/// The text between the quotes of a line, where it stands there as it is, without an escape; `None` says nothing of the
-/// line.
+/// The text between the quotes of a line, where it stands there as it is, without an escape; `None`
+/// says nothing of the line.
 fn plain_string<'a>(line: &'a str) -> Option<&'a str>
     ensures { IfSome result (λ s. line.now ≡ quoted s.now) }
 {

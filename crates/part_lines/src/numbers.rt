@@ -1,4 +1,5 @@
 //! Values of columns and numbers, read one by one.
+
 ghost use Rattle.std.specs.Prelude.{◌≤◌, IfOk, OnOk};
 ghost use Rattle.semantics.specs.Records.{Holds};
 ghost use Rattle.values.specs.Datum.{datum_of};
@@ -46,8 +47,8 @@ pub(crate) fn next_number<S: ValueReader>(source: &mut S) -> Result<i128, PartRe
 
 /// The next value, which is a count of 64 bits.
 ///
-/// Example: of the lines `2` and `-1` the first call answers 2, and the second one that the value is unexpected, at the
-/// line 2.
+/// Example: of the lines `2` and `-1` the first call answers 2, and the second one that the value
+/// is unexpected, at the line 2.
 ///
 /// # Errors
 ///

@@ -1,4 +1,5 @@
 //! Groups, read value by value.
+
 ghost use Rattle.std.specs.Prelude.{◌≤◌, IfOk, IsTrue, OnOk};
 ghost use Rattle.semantics.specs.Groups.{key_order};
 ghost use Rattle.values.specs.Datum.{data_of};
@@ -61,7 +62,8 @@ fn next_key<S: ValueReader>(
     Ok(key)
 }
 
-/// How many members the next group has, of a key by these columns: no more than are left, and as many as it can have.
+/// How many members the next group has, of a key by these columns: no more than are left, and as
+/// many as it can have.
 #[tactic(auto, unfolding(crate::specs::Reading::members_at))]
 fn next_members<S: ValueReader>(
     source: &mut S,
@@ -84,17 +86,17 @@ fn next_members<S: ValueReader>(
     Ok(members)
 }
 
-/// The next group, of this shape, its key above the last one, where there is one, and of no more members than are left. With
-/// grouping columns it has a member.
+/// The next group, of this shape, its key above the last one, where there is one, and of no more
+/// members than are left. With grouping columns it has a member.
 ///
-/// Example: of the lines `"Harbour"`, `2`, `7` and `2` it is, for one column of texts and one sum, the group of `Harbour`
-/// with 2 members and `State::Sum(7, 2)`. Behind the key `Quay` its key is out of order, and where 1 member is left `2`
-/// is out of range.
+/// Example: of the lines `"Harbour"`, `2`, `7` and `2` it is, for one column of texts and one sum,
+/// the group of `Harbour` with 2 members and `State::Sum(7, 2)`. Behind the key `Quay` its key is
+/// out of order, and where 1 member is left `2` is out of range.
 ///
 /// # Errors
 ///
-/// The first fault of the lines, a read that failed, or want of memory. A fault that is met at a value names that value's
-/// line.
+/// The first fault of the lines, a read that failed, or want of memory. A fault that is met at a
+/// value names that value's line.
 #[tactic(auto, unfolding(crate::specs::Reading::group_at))]
 pub fn next_group<S: ValueReader>(
     alloc: Global,

@@ -2,9 +2,11 @@
 
 use semantics::Kind;
 
-/// Which state a set function has, and of which type its column is where the state has values of it.
+/// Which state a set function has, and of which type its column is where the state has values of
+/// it.
 ///
-/// Example: for a column of texts `MIN` has the kind `Extreme(Kind::Text)`, and `SUM` of whole numbers the kind `Sum`.
+/// Example: for a column of texts `MIN` has the kind `Extreme(Kind::Text)`, and `SUM` of whole
+/// numbers the kind `Sum`.
 #[derive(Clone, Copy, PartialEq, Eq)]
 pub enum StateKind {
     /// Nothing, which no line stands for: `values::State::Rows`.
@@ -21,8 +23,8 @@ pub enum StateKind {
 
 /// What a query asks of the groups of a part.
 ///
-/// Example: of `SELECT shop, SUM(cents) AS s FROM lines GROUP BY shop`, `shop` being a column of texts, there is one
-/// column, of the type `Text`, and one state, of the kind `Sum`.
+/// Example: of `SELECT shop, SUM(cents) AS s FROM lines GROUP BY shop`, `shop` being a column of
+/// texts, there is one column, of the type `Text`, and one state, of the kind `Sum`.
 #[derive(Drop)]
 pub struct GroupShape {
     /// The type of each grouping column, in the order of the values of a key.

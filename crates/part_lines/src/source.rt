@@ -1,4 +1,5 @@
 //! Where the values of a part come from.
+
 ghost use Rattle.std.specs.Prelude.{◌≡◌, ◌+◌, OnOk};
 ghost use Rattle.values.specs.Datum.{datum_of};
 ghost use Rattle.part_lines.specs.Reading.{Gives, Stream, value_at};
@@ -8,10 +9,11 @@ use values::Value;
 
 /// The values of a part, one after the other.
 ///
-/// Example: of the lines `"Harbour"` and `2` the first call of `next` answers the text `Harbour`, after which `line`
-/// answers 1.
+/// Example: of the lines `"Harbour"` and `2` the first call of `next` answers the text `Harbour`,
+/// after which `line` answers 1.
 pub trait ValueReader {
-    /// The lines are known. Where they are not, nothing is said of what is read but how many lines were.
+    /// The lines are known. Where they are not, nothing is said of what is read but how many lines
+    /// were.
     ghost known: { Self → Type 0 };
 
     /// The lines that are to come, and those before.

@@ -1,4 +1,5 @@
 //! States of set functions, read value by value.
+
 ghost use Rattle.std.specs.Prelude.{◌≡◌, ◌≤◌, IfOk, OnOk, None, vec_len};
 ghost use Rattle.values.specs.Datum.{data_of, datum_of};
 ghost use Rattle.values.specs.GroupStates.{state_of, states_of};
@@ -55,7 +56,8 @@ fn next_different<S: ValueReader>(
     Ok(value)
 }
 
-/// So many different values of a column of this type, ascending. No memory is taken for a count before its values have come.
+/// So many different values of a column of this type, ascending. No memory is taken for a count
+/// before its values have come.
 fn next_ascending<S: ValueReader>(
     alloc: Global,
     source: &mut S,
@@ -78,7 +80,8 @@ fn next_ascending<S: ValueReader>(
     Ok(values)
 }
 
-/// How many different values of a column of this type there are, of at most so many members, and these.
+/// How many different values of a column of this type there are, of at most so many members, and
+/// these.
 #[tactic(auto, unfolding(crate::specs::Reading::collected_at))]
 fn next_collected<S: ValueReader>(
     alloc: Global,

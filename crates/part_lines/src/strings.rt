@@ -1,4 +1,5 @@
 //! Texts as strings of JSON.
+
 ghost use Rattle.std.specs.Prelude.{◌≡◌, IfOk, IsTrue};
 ghost use Rattle.json.specs.Print.{escape, quoted};
 
@@ -17,8 +18,8 @@ pub(crate) fn json_string(alloc: Global, text: &str) -> Result<Vec<u8>, AllocErr
     Ok(writer.into_inner())
 }
 
-/// Whether a text is its own content as a string of JSON, since nothing of it has to be escaped; `false` says nothing
-/// of the text.
+/// Whether a text is its own content as a string of JSON, since nothing of it has to be escaped;
+/// `false` says nothing of the text.
 pub(crate) fn has_no_escape(text: &str) -> bool
     ensures { IsTrue result → escape text.now ≡ text.now }
 {

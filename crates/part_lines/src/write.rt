@@ -1,4 +1,5 @@
 //! Values and groups, written as lines.
+
 ghost use Rattle.std.specs.Prelude.{◌≡◌, [], ◌∷◌, ◌++◌, ℕ, OnErr, OnOk, take};
 ghost use Rattle.semantics.specs.Lines.{line_feed};
 ghost use Rattle.semantics.specs.Values as semantics;
@@ -17,7 +18,8 @@ use values::{GroupEntry, State, Value};
 ///
 /// # Errors
 ///
-/// `AllocError` where there is no memory for the line. The first bytes of it may stand behind the text then.
+/// `AllocError` where there is no memory for the line. The first bytes of it may stand behind the
+/// text then.
 pub fn push_value(alloc: Global, text: &mut Vec<u8>, value: &Value) -> Result<(), AllocError>
     ensures behind { OnOk result (text.new.items ≡ text.old.items ++ line_of (datum_of value.now)) }
     ensures front { OnErr result ((count : ℕ)

@@ -26,11 +26,13 @@ use Rattle.parts.specs.ReadingParts.{all_refused_at, can_have, checksum_at, cont
 
 -- ---- what lines of values are read as
 
--- Where the next lines have these values, the reading gives this thing, and the lines behind them are left.
+-- Where the next lines have these values, the reading gives this thing, and the lines behind them
+-- are left.
 abbrev pub Reads : {A : Type 0} → (Stream → Result (A × Stream) Fault) → List Datum → A → Type 0
 Reads one ds a = (s : Stream) (ls rest : List (List ℕ)) → HaveValues ls ds → s.left ≡ ls ++ rest → one s ≡ Ok (a, behind ds rest s)
 
--- Refused lines of so many lines: each has a number above the one before, and a fault that its text names.
+-- Refused lines of so many lines: each has a number above the one before, and a fault that its text
+-- names.
 abbrev pub AreRefusedFor : List Field → (lines last : ℕ) → List (ℕ × LineFault) → Type 0
 AreRefusedFor fields lines last [] = ⊤
 AreRefusedFor fields lines last (x ∷ xs) = (last < x.0) × (x.0 ≤ lines) × (fault_named fields (fault_text fields x.1) ≡ Some x.1) × AreRefusedFor fields lines x.0 xs

@@ -1,4 +1,5 @@
--- The parts of inputs, one behind the other, if they are read at all, are read as the contents of these inputs.
+-- The parts of inputs, one behind the other, if they are read at all, are read as the contents of
+-- these inputs.
 use Rattle.std.proofs.Common.{◌≡◌, ◌≢◌, ◌<◌, ◌≤◌, ◌+◌, ℕ, true, false, cond, List, [], ◌∷◌, ◌++◌, length, map, take, inl, inr, None, Result, Ok, Err, refl, sym, ap, subst, ◌∙◌, append_assoc, arith, zero, suc}
 use Rattle.std.proofs.lemmas.Bool.{cases_lt}
 use Rattle.std.proofs.lemmas.Bool.Decides.{nat_tests}

@@ -26,8 +26,8 @@ use Rattle.parts.specs.ReadingParts.{all_refused_at, checksum_at, contents_at, f
 abbrev pub IsRead : {A : Type 0} → A → List (List ℕ) → A × Stream → Type 0
 IsRead a rest read = (read.0 ≡ a) × (read.1.left ≡ rest)
 
--- where the next lines are read as these values, the reading gives this thing, if it gives anything, and the lines behind
--- them are left
+-- where the next lines are read as these values, the reading gives this thing, if it gives
+-- anything, and the lines behind them are left
 abbrev pub ReadsBack : {A : Type 0} → (Stream → Result (A × Stream) Fault) → List Datum → A → Type 0
 ReadsBack one ds a = (s : Stream) (ls rest : List (List ℕ)) → AreReadAs ls ds → s.left ≡ ls ++ rest → IfOk (one s) (IsRead a rest)
 
@@ -169,7 +169,8 @@ all_refused-again fields lines refused alone =
 -- ---- contents
 
 module _ (fields : List Field) (q : Query) where
-  -- what is read behind the number of the groups, behind the refused lines, and behind the number of the lines
+  -- what is read behind the number of the groups, behind the refused lines, and behind the number
+  -- of the lines
   abbrev behind-count : ℕ → List (ℕ × LineFault) → ℕ × Stream → Result (ContentsForm × Stream) Fault
   behind-count n refused count = groups_at (shape_under fields q) count.0 None (n - length refused) count.1 >>= λ groups. Ok (record { lines = n; refused = refused; groups = groups.0 }, groups.1)
 

@@ -108,8 +108,8 @@ pub read-Err : {A E F : Type 0} (view : E → F) (read : Result A E) (g : F) →
 read-Err view (Ok x) g e = absurd cc
 read-Err view (Err fault) g e = record { fault = fault; is = refl; seen = cc }
 
--- Behind parts whose result is `first` some more were read, up to where a reader is; the result of all is `whole`, and the
--- next part has the number `part`.
+-- Behind parts whose result is `first` some more were read, up to where a reader is; the result of
+-- all is `whole`, and the next part has the number `part`.
 pub record IsJoining (plan : PlannedQuery) (start : ReaderState) (first : PartialState) (reader : ReaderState) (part : ℕ) (whole : PartialState) : Type 0 where
   pub more : List ContentsForm
   pub sound : IsSoundUnder plan whole

@@ -1,5 +1,5 @@
--- Reading parts goes forward: behind what was read there are no more lines than before it, and behind a part there are
--- fewer. So as many parts as there are lines are all of them.
+-- Reading parts goes forward: behind what was read there are no more lines than before it, and
+-- behind a part there are fewer. So as many parts as there are lines are all of them.
 use Rattle.std.proofs.Common.{◌≡◌, ◌≢◌, ◌≤◌, ◌+◌, ◌-◌, ◌^◌, ℕ, zero, suc, List, [], ◌∷◌, length, None, Result, Ok, Err, refl, ap, subst, ◌∙◌, arith}
 use Rattle.std.specs.Prelude.{⊤, IfOk, nat_lt}
 use Rattle.std.specs.Str.{bytes_eq}

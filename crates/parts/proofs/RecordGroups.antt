@@ -84,8 +84,9 @@ members-possible fields (place ∷ places) rows =
 
 -- ---- groups
 
--- The groups of these keys fit, one behind the other, where each key does, has as many members as it can have, is above the
--- last one and before the keys behind it, and there are no more members of them all than are left.
+-- The groups of these keys fit, one behind the other, where each key does, has as many members as
+-- it can have, is above the last one and before the keys behind it, and there are no more members
+-- of them all than are left.
 entries-fit : (shape : ShapeForm) (set : List ℕ) (functions : List AggregateFunction) (rows : List Record)
     → ((key : Key) → AreStatesFor (length (members set key rows)) shape.states (map (λ f. function_state f (members set key rows)) functions))
     → (before : Before) (ks : List Key) → AllByRecursion (IsKeyFor shape.columns) ks

@@ -409,6 +409,7 @@ records-short-of fields (line ∷ all) =
       | Err fault ↦ λ is. records-short-of fields all
     ] refl
 
--- the texts of the records of an input are in UTF-8, and as strings of JSON no longer than a line may be
+-- the texts of the records of an input are in UTF-8, and as strings of JSON no longer than a line
+-- may be
 pub records-short : (fields : List Field) (input : List ℕ) → AllByRecursion (λ values. AllByRecursion (TextIs IsShort) values) (valid_records fields input)
 records-short fields input = records-short-of fields (lines input)

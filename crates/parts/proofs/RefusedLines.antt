@@ -1,4 +1,5 @@
--- The refused lines of an input are such as a reader of parts takes; and how many lines have a record, and what holds of it.
+-- The refused lines of an input are such as a reader of parts takes; and how many lines have a
+-- record, and what holds of it.
 use Rattle.std.proofs.Common.{◌≡◌, ◌<◌, ◌≤◌, ◌+◌, ℕ, Bool, true, false, cond, List, [], ◌∷◌, length, map, filter_map, get_or, option_map, Some, None, Result, Ok, Err, refl, sym, ap, ◌∙◌, arith}
 use Rattle.std.proofs.lemmas.Bool.Decides.{nat_tests}
 use Rattle.std.proofs.lemmas.List.{length-map}

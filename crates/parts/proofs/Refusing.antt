@@ -1,4 +1,5 @@
--- Reading refused lines one after the other, as a loop does: those before and those that are still read are all.
+-- Reading refused lines one after the other, as a loop does: those before and those that are still
+-- read are all.
 use Rattle.std.proofs.Common.{◌≡◌, ℕ, suc, ◌-◌, ◌+◌, ◌≤◌, ◌<◌, List, [], ◌∷◌, ◌++◌, Result, Ok, Err, refl, sym, ap, ◌∙◌, append_assoc, append-nil, arith}
 use Rattle.part_lines.specs.Faults.{Fault}
 use Rattle.part_lines.specs.Reading.{Refuses, Stream}

@@ -173,7 +173,8 @@ content-short-from (after_high h) (s ∷ u ∷ a ∷ b ∷ c ∷ d ∷ xs) =
     (λ l e. IfSome-cond (IsShort n) (is_low_surrogate l) _ _
     (λ y. longer n _ (encode_utf8 (surrogate_pair h l)) _ (content-short-from plain xs) (omega (arith, escape_encode-six (surrogate_pair h l)))) (λ y. tt))) (λ _. tt)
 
--- the content of a string, escaped again, is not longer than the text it was read of, up to its closing quote
+-- the content of a string, escaped again, is not longer than the text it was read of, up to its
+-- closing quote
 pub content-short : (xs s : List ℕ) → content plain xs ≡ Some s → length (escape s) + 1 ≤ length xs
 content-short xs s e = omega (arith, IfSome-at (IsShort (length xs + 0)) (content plain xs) s e (content-short-from plain xs))
 
@@ -238,7 +239,8 @@ around_unit front a b c d u rest is utf8 =
     let r = around_ascii [] c (d ∷ rest) is.third q.1 in
     (p.0, (around_ascii [] d rest is.fourth r.1).1)
 
--- The front is what was taken of plain text so far: it may end within a character, which the text behind it completes. An escape is ASCII, so that it stands between characters.
+-- The front is what was taken of plain text so far: it may end within a character, which the text
+-- behind it completes. An escape is ASCII, so that it stands between characters.
 content-utf8-behind : (w : Within) (xs front : List ℕ) → IsHighHalf w → IsUtf8 (front ++ xs) → IfSome (content w xs) (IsUtf8Behind front)
 unfolding content
 content-utf8-behind plain [] front half u = tt

@@ -15,8 +15,8 @@ use Rattle.parts.specs.declared.fault.PartsRefusal.TheVariants as refusal
 use Rattle.parts.specs.Faults.{PartedFault, parted_of}
 use Rattle.parts.specs.ReadingParts.{parts_at}
 
--- A result is that of these contents, one behind the other: whatever inputs they are the contents of, it
--- stands for these, one behind the other.
+-- A result is that of these contents, one behind the other: whatever inputs they are the contents
+-- of, it stands for these, one behind the other.
 abbrev pub StandsForAll : PlannedQuery → List ContentsForm → PartialState → Type 0
 StandsForAll plan all partial =
     (inputs : List (List ℕ)) → all ≡ map (contents_over plan.fields plan.query) inputs
@@ -28,8 +28,8 @@ pub record IsJoin (plan : PlannedQuery) (ls : List (List ℕ)) (partial : Partia
   pub read : parts_at plan.fields plan.query ls ≡ Ok contents
   pub stands : StandsForAll plan contents partial
 
--- A call that reads lines answers the result of the parts that they are, or their first fault; where a
--- read failed, or without memory, nothing is known of them.
+-- A call that reads lines answers the result of the parts that they are, or their first fault;
+-- where a read failed, or without memory, nothing is known of them.
 abbrev pub AnswersParts : PlannedQuery → List (List ℕ) → Result PartialState PartsRefusal → Type 0
 AnswersParts plan ls (Ok partial) = IsJoin plan ls partial
 AnswersParts plan ls (Err (refusal.Fault fault)) = parts_at plan.fields plan.query ls ≡ Err (parted_of fault)
@@ -45,8 +45,8 @@ IsNoFault (Err refusal.OutOfMemory) = ⊤
 
 -- ---- what a join says of a reading
 
--- Where a join is done, what was read is parts; a fault of the parts that it answers is their first one; of
--- another fault nothing is said.
+-- Where a join is done, what was read is parts; a fault of the parts that it answers is their first
+-- one; of another fault nothing is said.
 abbrev pub IsReadAs : {X : Type 0} → Result X JoinFault → Result (List ContentsForm) PartedFault → Type 0
 IsReadAs (Ok x) read = IsOk read
 IsReadAs (Err (Parts fault)) read = read ≡ Err (parted_of fault)

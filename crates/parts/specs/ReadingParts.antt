@@ -88,8 +88,8 @@ has_leading_zero t = starts_with nat_eq t (codes "0") && nat_lt 1 (length t)
 abbrev pub is_version : List ℕ → Bool
 is_version t = not (length t == 0) && list_all is_ascii_digit t && not (has_leading_zero t)
 
--- What is wrong with another text than the mark: it is the mark of another version, of which a message shows
--- the first digits, or of no part.
+-- What is wrong with another text than the mark: it is the mark of another version, of which a
+-- message shows the first digits, or of no part.
 abbrev pub kind_of_version : Option (List ℕ) → FaultKind
 kind_of_version None = not_a_part
 kind_of_version (Some version) = if is_version version then other_version (shortened version) else not_a_part
@@ -159,7 +159,7 @@ all_refused_at fields lines s = do
 
 -- ---- groups
 
--- The type of the column at a place. (A plan names columns that are there.)
+-- The type of the column at a place. (A plan names columns that are there.).
 abbrev pub type_at : List Field → ℕ → Kind
 type_at fields place = unwrap_or (kind_at fields place) type.Int
 
@@ -214,8 +214,8 @@ header_of columns query s = do
 abbrev pub header_at : List Field → Query → Stream → Result (Unit {0} × Stream) Fault
 header_at fields q s = header_of (columns_text fields) (canonical_text q) s
 
--- The contents of a part, which has fewer than 2^63 lines with those before it: its lines, the refused
--- ones of them, and the groups, of no more members together than there are good lines.
+-- The contents of a part, which has fewer than 2^63 lines with those before it: its lines, the
+-- refused ones of them, and the groups, of no more members together than there are good lines.
 unfoldable pub contents_at : List Field → Query → ℕ → Stream → Result (ContentsForm × Stream) Fault
 contents_at fields q before s = do
   n ← lines_at before s
@@ -257,8 +257,8 @@ parts_from fields q (suc most) part before s = where_lines s.left (do
   x ← with_fault (in_part part) (part_at fields q before s)
   behind_part x.0 (parts_from fields q most (part + 1) (before + x.0.lines) x.1))
 
--- The parts that these lines are, of which there is one at least. A part has more than one line, so that
--- there are no more parts than lines.
+-- The parts that these lines are, of which there is one at least. A part has more than one line, so
+-- that there are no more parts than lines.
 abbrev pub parts_at : List Field → Query → List (List ℕ) → Result (List ContentsForm) PartedFault
 parts_at fields q [] = Err (record { part = 1; line = 1; kind = no_part })
 parts_at fields q (line ∷ more) = parts_from fields q (length (line ∷ more)) 1 0 (record { left = line ∷ more; place = 0 })

@@ -23,8 +23,9 @@ shortened t = first_of 200 (chars t)
 
 -- ---- characters that would change what is around them are escaped
 
--- Whether a character is not shown, or turns the direction of writing: DEL and the control characters behind
--- it (U+007F to U+009F), the embeddings and overrides (U+202A to U+202E), and the isolates (U+2066 to U+2069).
+-- Whether a character is not shown, or turns the direction of writing: DEL and the control
+-- characters behind it (U+007F to U+009F), the embeddings and overrides (U+202A to U+202E), and the
+-- isolates (U+2066 to U+2069).
 abbrev pub is_hidden : ℕ → Bool
 is_hidden c = (nat_le 0x7F c && nat_le c 0x9F) || (nat_le 0x202A c && nat_le c 0x202E) || (nat_le 0x2066 c && nat_le c 0x2069)
 
@@ -42,7 +43,7 @@ all_visible t = flat_map visible (chars t)
 
 -- ---- the two together
 
--- A text as a message shows it: a string of JSON, in quotes, in which no character is hidden. Of a long text
--- it has the first characters, each of them whole.
+-- A text as a message shows it: a string of JSON, in quotes, in which no character is hidden. Of a
+-- long text it has the first characters, each of them whole.
 abbrev pub shown : List ℕ → List ℕ
 shown t = all_visible (quoted (shortened t))

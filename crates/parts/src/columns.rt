@@ -1,4 +1,5 @@
 //! The columns of a part, as a text.
+
 ghost use Rattle.std.specs.List.{flat_map};
 ghost use Rattle.std.specs.Prelude.{◌≡◌, ◌++◌, IfOk, OnOk, codes, map, string_bytes};
 ghost use Rattle.values.specs.Schema.{field_of, fields_of};

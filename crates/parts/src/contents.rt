@@ -1,4 +1,5 @@
 //! The contents of a part: its lines, the refused ones of them, and its groups.
+
 ghost use Rattle.std.specs.Prelude.{◌≡◌, ◌+◌, ◌-◌, ◌<◌, ◌≤◌, All, IfOk, None, OnOk, [], length, string_bytes};
 ghost use Rattle.part_lines.specs.Groups.{shape_of};
 ghost use Rattle.semantics.specs.Parts.{text_of, columns_text, values_with};
@@ -96,8 +97,8 @@ fn before_groups<E: Executor>(
     })
 }
 
-/// The contents of a part of a plan, whose first lines, texts of its groups and grouping columns are these, and which has
-/// fewer than 2^63 lines with those before it.
+/// The contents of a part of a plan, whose first lines, texts of its groups and grouping columns
+/// are these, and which has fewer than 2^63 lines with those before it.
 #[tactic(auto, unfolding(crate::specs::ReadingParts::contents_at))]
 pub(crate) fn next_contents<S: ValueReader, E: Executor>(
     alloc: Global,

@@ -1,4 +1,5 @@
 //! The groups of a part, put to a partial result as they come.
+
 ghost use Rattle.std.specs.Option.{option_copied};
 ghost use Rattle.std.specs.Prelude.{◌≡◌, ◌-◌, ◌++◌, ◌∷◌, [], ℕ, IfOk, List, None, OnOk, Some, option_map};
 ghost use Rattle.values.specs.GroupStates.{entry_of};

@@ -1,4 +1,5 @@
 //! The groups of a part.
+
 ghost use Rattle.std.specs.Prelude.{◌≡◌, ◌≤◌, ◌++◌, ℕ, IfOk, List, None, OnOk, length};
 ghost use Rattle.part_lines.specs.Groups.{shape_of};
 ghost use Rattle.semantics.specs.Parts.{groups_values, text_of};
@@ -13,7 +14,8 @@ use part_lines::{GroupShape, PartRefusal, ValueReader, next_group};
 use query_plan::Plan;
 use std::alloc::Global;
 
-/// The next groups, as many as are asked for. No memory is taken for a count before its groups have come.
+/// The next groups, as many as are asked for. No memory is taken for a count before its groups have
+/// come.
 pub(crate) fn next_groups<S: ValueReader>(
     alloc: Global,
     plan: &Plan,

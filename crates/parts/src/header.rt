@@ -1,4 +1,5 @@
 //! The first lines of a part.
+
 ghost use Rattle.std.specs.Prelude.{◌≡◌, ◌<◌, ◌≤◌, IfOk, OnOk};
 ghost use Rattle.std.specs.Char.{is_ascii_digit};
 ghost use Rattle.std.specs.List.{list_all};
@@ -137,7 +138,8 @@ fn next_query<S: ValueReader>(alloc: Global, source: &mut S, query: &str) -> Res
     }
 }
 
-/// The first lines of a part: its mark, and its columns and its query, whose texts have to be these.
+/// The first lines of a part: its mark, and its columns and its query, whose texts have to be
+/// these.
 #[tactic(auto, unfolding(crate::specs::ReadingParts::header_of))]
 pub(crate) fn next_header<S: ValueReader>(
     alloc: Global,

@@ -1,4 +1,5 @@
 //! Parts, one behind the other, read as the result of all of them.
+
 ghost use Rattle.std.specs.Prelude.{◌≡◌, ◌+◌, ◌<◌, ℕ, IfOk, IfSome, List, OnOk, flat_map, string_bytes};
 ghost use Rattle.lines.specs.Clip.{clip_lines};
 ghost use Rattle.part_lines.specs.Groups.{shape_of};
@@ -90,7 +91,8 @@ fn next_numbered<R: Read + Drop, E: Executor>(
     }
 }
 
-/// The result of parts and of those behind them, of which this reader gives the lines. The next one has the number 2.
+/// The result of parts and of those behind them, of which this reader gives the lines. The next one
+/// has the number 2.
 fn join_rest<R: Read + Drop, E: Executor>(
     alloc: Global,
     plan: &Plan,
@@ -126,21 +128,23 @@ fn join_rest<R: Read + Drop, E: Executor>(
     Ok(whole)
 }
 
-/// The result of a plan over all inputs whose parts stand one behind the other in what a reader gives. The lines of the
-/// first input come before those of the second one, and so on. The executor puts the groups of parts together; it can do so.
+/// The result of a plan over all inputs whose parts stand one behind the other in what a reader
+/// gives. The lines of the first input come before those of the second one, and so on. The executor
+/// puts the groups of parts together; it can do so.
 ///
-/// Example: of the parts of two shards of 3 lines each, of which the first line of the second one is refused, it is the
-/// result over 6 lines, of which the fourth one is refused.
+/// Example: of the parts of two shards of 3 lines each, of which the first line of the second one
+/// is refused, it is the result over 6 lines, of which the fourth one is refused.
 ///
 /// # Errors
 ///
-/// The first fault of the parts, from the front: `NoPart` where there is no line; `NotAPart` or `OtherVersion` where a part
-/// should begin and another line stands; `OtherColumns` and `OtherQuery` where a part is of others than the plan; and where
-/// a line is not what should stand there, `NotAValue`, `UnexpectedValue`, `OutOfOrder`, `OutOfRange`, `EndsTooEarly`,
-/// `WrongChecksum` or `TooManyLines`. The parts of inputs, of which there is one at least, have none of these where the
-/// inputs have fewer than 2^63 lines together, and the columns and the canonical query at most 1,000,000 bytes each, as
-/// strings of JSON. `Reading` where a read fails or the input has 2^63 bytes or more, `OutOfMemory` where memory runs
-/// out.
+/// The first fault of the parts, from the front: `NoPart` where there is no line; `NotAPart` or
+/// `OtherVersion` where a part should begin and another line stands; `OtherColumns` and
+/// `OtherQuery` where a part is of others than the plan; and where a line is not what should stand
+/// there, `NotAValue`, `UnexpectedValue`, `OutOfOrder`, `OutOfRange`, `EndsTooEarly`,
+/// `WrongChecksum` or `TooManyLines`. The parts of inputs, of which there is one at least, have
+/// none of these where the inputs have fewer than 2^63 lines together, and the columns and the
+/// canonical query at most 1,000,000 bytes each, as strings of JSON. `Reading` where a read fails
+/// or the input has 2^63 bytes or more, `OutOfMemory` where memory runs out.
 pub fn read_parts<R: Read + Drop, E: Executor>(
     alloc: Global,
     plan: &Plan,

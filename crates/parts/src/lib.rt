@@ -1,7 +1,8 @@
 //! Parts: partial results as texts, and back.
 //!
-//! A part is the partial result of a query over an input, as a text that can be kept in a file, or sent to another machine.
-//! The parts of several inputs, one behind the other, are read as the partial result of all of them.
+//! A part is the partial result of a query over an input, as a text that can be kept in a file, or
+//! sent to another machine. The parts of several inputs, one behind the other, are read as the
+//! partial result of all of them.
 #![tactic(auto)]
 
 mod checksum;

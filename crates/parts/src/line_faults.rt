@@ -1,4 +1,5 @@
 //! What is wrong with a line, as a text and back.
+
 ghost use Rattle.std.specs.Prelude.{◌≡◌, ◌++◌, IfOk, codes, position, string_bytes};
 ghost use Rattle.std.specs.Str.{bytes_eq};
 ghost use Rattle.semantics.specs.Canonical.{name_at};

@@ -1,4 +1,5 @@
 //! A part, from its mark to its checksum.
+
 ghost use Rattle.std.specs.Prelude.{◌≡◌, ◌+◌, ◌<◌, IfOk, OnOk, string_bytes};
 ghost use Rattle.part_lines.specs.Groups.{shape_of};
 ghost use Rattle.semantics.specs.Canonical.{canonical_text};
@@ -19,8 +20,8 @@ use query_plan::Plan;
 use std::alloc::Global;
 use tables::{Executor, Partial};
 
-/// The result that the next part is, which is one of a plan, whose first lines and groups are so, and has fewer than 2^63
-/// lines with those before it.
+/// The result that the next part is, which is one of a plan, whose first lines and groups are so,
+/// and has fewer than 2^63 lines with those before it.
 #[tactic(auto, unfolding(crate::specs::ReadingParts::part_at))]
 pub(crate) fn next_part<S: ValueReader, E: Executor>(
     alloc: Global,

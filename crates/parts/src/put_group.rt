@@ -1,4 +1,5 @@
 //! A group put to a partial result.
+
 ghost use Rattle.std.specs.Prelude.{◌≡◌, ◌++◌, IfOk, None};
 ghost use Rattle.tables.specs.Contents.{DiffersInGroups, groups_in};
 ghost use Rattle.parts.specs.Inside.Gathering.{CanHold, last_of};

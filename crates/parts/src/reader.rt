@@ -1,4 +1,5 @@
 //! The values of parts, read line by line.
+
 ghost use Rattle.std.specs.Io.KnownBytes.{IsAtEnd, Keeps};
 ghost use Rattle.std.specs.Prelude.{◌≡◌, ◌<◌, ◌≤◌, ◌+◌, ◌↔◌, [], ℕ, true, false, IfOk, OnOk, Ok, length, drop, slice_range, slice_index};
 ghost use Rattle.lines.specs.Clip.{clip_lines};
@@ -102,7 +103,8 @@ impl<R: Read + Drop> PartReader<R> {
     }
 }
 
-/// Goes on to the next round where a place is at the end of this one. Answers whether there is a byte behind the place.
+/// Goes on to the next round where a place is at the end of this one. Answers whether there is a
+/// byte behind the place.
 fn find_line<R: Read + Drop>(rounds: &mut Rounds<R>, place: &mut usize) -> Result<bool, ReadFault>
     requires at_line { (line : ℕ) × IsAtLine rounds.old place.old line }
     ensures at_line { (line : ℕ) → IsAtLine rounds.old place.old line

@@ -1,4 +1,5 @@
 //! The refused lines of a part.
+
 ghost use Rattle.std.specs.Prelude.{◌≡◌, ◌≤◌, All, IfOk, OnOk, length};
 ghost use Rattle.values.specs.Schema.{fields_of};
 ghost use Rattle.part_lines.specs.Reading.{Gives};
@@ -12,7 +13,8 @@ use semantics::PartsFaultKind;
 use std::alloc::Global;
 use values::Column;
 
-/// The next refused line: its number, above the last one and not above that of the lines, and its fault.
+/// The next refused line: its number, above the last one and not above that of the lines, and its
+/// fault.
 #[tactic(auto, unfolding(crate::specs::ReadingParts::refused_line_at))]
 fn next_refused_line<S: ValueReader>(
     source: &mut S,
@@ -35,7 +37,8 @@ fn next_refused_line<S: ValueReader>(
     }
 }
 
-/// The next refused lines, as many as are asked for. No memory is taken for a count before its lines have come.
+/// The next refused lines, as many as are asked for. No memory is taken for a count before its
+/// lines have come.
 fn next_refused_lines<S: ValueReader>(
     alloc: Global,
     source: &mut S,

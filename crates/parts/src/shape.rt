@@ -1,4 +1,5 @@
 //! What a query asks of the groups of its parts.
+
 ghost use Rattle.std.specs.Prelude.{◌≡◌, IfOk, map};
 ghost use Rattle.values.specs.Schema.{fields_of};
 ghost use Rattle.part_lines.specs.Groups.{shape_of};

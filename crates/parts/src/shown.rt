@@ -1,4 +1,5 @@
 //! Texts of a part, as a message shows them.
+
 ghost use Rattle.std.specs.Int.{to_be_bytes, w16};
 ghost use Rattle.std.specs.Prelude.{◌≡◌, ◌<◌, ◌^◌, ◌++◌, IfOk, IsTrue, OnOk, string_bytes};
 ghost use Rattle.json.specs.Print.{quoted};
@@ -10,8 +11,9 @@ use std::alloc::{AllocError, Global};
 /// The most characters of a text that a message shows.
 const MOST_SHOWN: usize = 200;
 
-/// A text as a message shows it: in quotes, as a string of JSON, and without a control character or one that turns the
-/// direction of writing. Of more than 200 characters there are the first 200, and `..` before the closing quote.
+/// A text as a message shows it: in quotes, as a string of JSON, and without a control character or
+/// one that turns the direction of writing. Of more than 200 characters there are the first 200,
+/// and `..` before the closing quote.
 ///
 /// Example: of the text `cents:int` it is `"cents:int"`. U+0080 is shown as `\u0080`.
 pub(crate) fn shown(alloc: Global, text: &str) -> Result<String, AllocError>

@@ -1,4 +1,5 @@
 //! Texts of a part, read one by one.
+
 ghost use Rattle.std.specs.Prelude.{◌≡◌, ◌≤◌, IfOk, OnOk, option_map, string_bytes};
 ghost use Rattle.part_lines.specs.Reading.{Gives};
 ghost use Rattle.parts.specs.ReadingParts.{other_at, other_text, text_at};

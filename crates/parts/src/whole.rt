@@ -1,4 +1,5 @@
 //! A partial result as the text of a part.
+
 ghost use Rattle.std.specs.Prelude.{◌≡◌, ℕ, IfOk, List};
 ghost use Rattle.tables.specs.Partials.{StandsForInput};
 ghost use Rattle.semantics.specs.Parts.{part_text};
@@ -12,10 +13,10 @@ use tables::Partial;
 
 /// The text of the part of an input, of which this is the result under a plan. It is given up.
 ///
-/// Example: of the result over one line that is no JSON, under the columns `cents:int` and the query
-/// `SELECT SUM(cents) AS s FROM lines`, the text has the lines `"jlreport part 1"`, `"cents:int"`,
-/// `"SELECT SUM(cents) AS s FROM lines"`, `1`, `1`, `1`, `"not JSON"`, `1`, `0`, `0`, `0`, and the checksum of these in
-/// quotes.
+/// Example: of the result over one line that is no JSON, under the columns `cents:int` and the
+/// query `SELECT SUM(cents) AS s FROM lines`, the text has the lines `"jlreport part 1"`,
+/// `"cents:int"`, `"SELECT SUM(cents) AS s FROM lines"`, `1`, `1`, `1`, `"not JSON"`, `1`, `0`,
+/// `0`, `0`, and the checksum of these in quotes.
 ///
 /// # Errors
 ///

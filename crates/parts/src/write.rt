@@ -1,4 +1,5 @@
 //! The lines of a part, written one by one.
+
 ghost use Rattle.std.specs.Prelude.{◌≡◌, [], ◌∷◌, ◌++◌, IfOk, OnOk, length, string_bytes};
 ghost use Rattle.semantics.specs.Canonical.{canonical_text};
 ghost use Rattle.semantics.specs.Values as semantics;

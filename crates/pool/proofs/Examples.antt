@@ -5,7 +5,8 @@ use Rattle.pool.specs.Holding.{Holding}
 use Rattle.pool.specs.Settled.{AreAll, AreRun, numbers_of_all}
 use Rattle.pool.proofs.Fronts.{run_none_passed}
 
--- Of 6 pieces that are dealt to 2 hands, the deque of hand 0 has 0, 2 and 4. The other hand takes one, and then the owner
+-- Of 6 pieces that are dealt to 2 hands, the deque of hand 0 has 0, 2 and 4. The other hand takes
+-- one, and then the owner
 left : left_after (residue_class 2 0 6) (1 ∷ 0 ∷ []) ≡ 4 ∷ []
 left = refl
 
@@ -29,7 +30,8 @@ zero_is_taken hs deal run two some_one =
     let same_deque : 0 % length hs ≡ 2 % length hs = subst (λ n. 0 % n ≡ 2 % n) (sym two) refl in
     run_none_passed hs deal run 0 2 (omega arith) same_deque some_one
 
--- So no schedule lets a hand steal 2 while 0 is in nobody's list, and leaves the two hands with 1, 3 and 2
+-- So no schedule lets a hand steal 2 while 0 is in nobody's list, and leaves the two hands with 1,
+-- 3 and 2
 no_such_theft : (hs : List Holding) → AreAll hs → AreRun hs → length hs ≡ 2 → numbers_of_all hs ≡ 1 ∷ 3 ∷ 2 ∷ [] → ⊥
 no_such_theft hs deal run two theirs =
     let has_two = ap (times 2) theirs in

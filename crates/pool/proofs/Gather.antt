@@ -103,7 +103,8 @@ module _ {M : Type 0} {reduction : Reduction M} (laws : Lawful reduction) where
   onto-append b its [] ys = onto_apart b its ys
   onto-append b its (x ∷ xs) ys = ap (reduction.combine (reduction.piece x)) (onto-append b its xs ys) ∙ sym (laws.associative _ _ _ (laws.piece_fits x) (onto_fits b its xs) (gathered_fits ys))
 
-  -- a part m still lacks what b stands for; with a part that b was begun with and the list l, it lacks nothing
+  -- a part m still lacks what b stands for; with a part that b was begun with and the list l, it
+  -- lacks nothing
   pub onto_next : (first : M) → reduction.fits first → (m b p : M) → reduction.fits m → reduction.fits b → (done l : List ℕ) → reduction.combine m b ≡ reduction_from reduction first done → p ≡ reduction_from reduction b l → reduction.combine (reduction.combine m p) reduction.unit ≡ reduction_from reduction first (done ++ l)
   onto_next first its m b p fm fb done l so_far is =
       let r = gathered_fits l in

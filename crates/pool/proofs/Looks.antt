@@ -44,7 +44,8 @@ module _ {closed : Bool} (place : ℕ) (v0 v1 v2 w : View) (positive : 0 < place
     pub second : (p : ℕ × List ℕ) × (q : ℕ × List ℕ) × (more : List (ℕ × List ℕ)) × (v3.known ≡ p ∷ q ∷ more) × (p.0 ≡ q.0 → ⊥) × Apart q.0 more
     second = ((0, ka.2.0), (place, history_of w.known), ka.2.1, known_three, (λ e. omega (arith, e, positive)), up_apart place (place + 1) ka.2.1 (omega arith) ka.2.3)
 
-  -- what goes on from what both know goes on from what the owner knew, and from what the other hand knows
+  -- what goes on from what both know goes on from what the owner knew, and from what the other hand
+  -- knows
   pub run_two : (these those : List (ℕ × List ℕ)) → OneRun v2 these those → OneRun v0 ((place, history_of w.known) ∷ these) those
   run_two these those run =
       let numbers = ap (λ (u : View). u.numbers) b2 ∙ ap (λ (u : View). u.numbers) b1 in

@@ -1,14 +1,14 @@
 -- The limits of a deal.
 use Rattle.std.specs.Prelude.{◌^◌, ℕ}
 
--- the most hands of a deal
+-- The most hands of a deal.
 abbrev pub most_hands : ℕ
 most_hands = 64
 
--- the most pieces of a deal
+-- The most pieces of a deal.
 abbrev pub most_pieces : ℕ
 most_pieces = 1048576
 
--- loads that are added up stay below this
+-- Loads that are added up stay below this.
 abbrev pub load_limit : ℕ
 load_limit = 2 ^ 63

@@ -10,12 +10,13 @@ use Rattle.pool.specs.Rule.{view_of}
 abbrev pub blank : View
 blank = view_of false false 0 0 [] []
 
--- the schedule goes on from what each of these hands knows
+-- The schedule goes on from what each of these hands knows.
 abbrev pub AreKnown : List ℕ → List ℕ → List (ℕ × List ℕ) → Type 0
 AreKnown numbers schedule [] = Unit {0}
 AreKnown numbers schedule (p ∷ ps) = GoesOn numbers p.0 p.1 schedule × AreKnown numbers schedule ps
 
--- x was the first that was left after steps of others, and the hand that is known has it at the end of its list since
+-- x was the first that was left after steps of others, and the hand that is known has it at the end
+-- of its list since
 abbrev pub TookAt : List ℕ → List (ℕ × List ℕ) → ℕ → List (ℕ × List ℕ) → Type 0
 TookAt numbers [] x ks = ⊥
 TookAt numbers (p ∷ ps) x ks =
@@ -23,24 +24,24 @@ TookAt numbers (p ∷ ps) x ks =
     × IsFirst x (left_after numbers (p.1 ++ others))
     × (taken_by numbers ((p.1 ++ others) ++ p.0 ∷ []) p.0 ≡ taken_by numbers p.1 p.0 ++ x ∷ [])
 
--- after steps of others nothing was left, and the hand that is known has what it had
+-- After steps of others nothing was left, and the hand that is known has what it had.
 abbrev pub EmptiedAt : List ℕ → List (ℕ × List ℕ) → List (ℕ × List ℕ) → Type 0
 EmptiedAt numbers [] ks = ⊥
 EmptiedAt numbers (p ∷ ps) ks =
     (others : List ℕ) × (ks ≡ (p.0, p.1 ++ others) ∷ ps) × (left_after numbers (p.1 ++ others) ≡ [])
     × (taken_by numbers (p.1 ++ others) p.0 ≡ taken_by numbers p.1 p.0)
 
--- the first of these hands
+-- The first of these hands.
 abbrev pub front : List (ℕ × List ℕ) → List (ℕ × List ℕ)
 front [] = []
 front (p ∷ ps) = p ∷ []
 
--- all but the first of these hands
+-- All but the first of these hands.
 abbrev pub rest : List (ℕ × List ℕ) → List (ℕ × List ℕ)
 rest [] = []
 rest (p ∷ ps) = ps
 
--- what the owner knows after it took a number, or an end mark: then nothing is left
+-- What the owner knows after it took a number, or an end mark: then nothing is left.
 abbrev pub TakenFrom : View → List Task → View → Type 0
 TakenFrom v [] w = Unit {0}
 TakenFrom v (Number x ∷ ts) w =
@@ -48,22 +49,22 @@ TakenFrom v (Number x ∷ ts) w =
 TakenFrom v (End ∷ ts) w =
     (w ≡ view_of v.filling v.owner (v.ends - 1) v.made v.numbers w.known) × EmptiedAt v.numbers v.known w.known
 
--- what another hand knows after it stole a number, or an end mark
+-- What another hand knows after it stole a number, or an end mark.
 abbrev pub StolenFrom : View → List Task → View → Type 0
 StolenFrom v [] w = Unit {0}
 StolenFrom v (Number x ∷ ts) w =
     (w ≡ view_of v.filling v.owner v.ends v.made v.numbers w.known) × TookAt v.numbers v.known x w.known
 StolenFrom v (End ∷ ts) w = w ≡ view_of v.filling v.owner (v.ends - 1) v.made v.numbers v.known
 
--- the other view's seat stands behind the first hand that is known
+-- The other view's seat stands behind the first hand that is known.
 abbrev pub lent_view : View → View → View
 lent_view v w =
     view_of v.filling v.owner (v.ends + w.ends) v.made v.numbers (front v.known ++ (w.known ++ rest v.known))
 
--- the second hand that is known has its seat again, and is owed this many end marks
+-- The second hand that is known has its seat again, and is owed this many end marks.
 abbrev pub giving_view : ℕ → View → View
 giving_view n v = view_of v.filling v.owner (v.ends - n) v.made v.numbers (front v.known ++ rest (rest v.known))
 
--- and that hand's view
+-- And that hand's view.
 abbrev pub given_view : ℕ → View → View
 given_view n v = view_of false false n 0 v.numbers (front (rest v.known))

@@ -5,56 +5,57 @@ use Rattle.pool.specs.declared.view.View.{View}
 use Rattle.pool.specs.Dealing.{left_after}
 use Rattle.pool.specs.Seen.{Seen, Owned}
 
--- the first of these hands
+-- The first of these hands.
 abbrev pub place_of : List (ℕ × List ℕ) → ℕ
 place_of [] = 0
 place_of (p ∷ ps) = p.0
 
--- and the steps that it knows of
+-- And the steps that it knows of.
 abbrev pub history_of : List (ℕ × List ℕ) → List ℕ
 history_of [] = []
 history_of (p ∷ ps) = p.1
 
--- what a hand with this view has of the deque
+-- What a hand with this view has of the deque.
 abbrev pub seen_of : (ℕ × ℕ) × Global → View → Seen
 seen_of deque v = record { deque = deque; numbers = v.numbers; place = place_of v.known; history = history_of v.known }
 
--- what its owner has of it
+-- What its owner has of it.
 abbrev pub owned_of : (ℕ × ℕ) × Global → View → Owned
 owned_of deque v = record { seen = record { deque = deque; numbers = v.numbers; place = 0; history = history_of v.known }; made = v.made }
 
--- the view of a sealed deque's owner, which has its own seat, and is owed a mark until it found one. Then what it
--- knows of left nothing
+-- The view of a sealed deque's owner, which has its own seat, and is owed a mark until it found
+-- one. Then what it knows of left nothing.
 abbrev pub IsOwner : View → Bool → Type 0
 IsOwner v closed =
     (v.filling ≡ false) × (v.owner ≡ true) × (v.known ≡ (0, history_of v.known) ∷ [])
     × (closed ≡ false → 0 < v.ends) × (closed ≡ true → left_after v.numbers (history_of v.known) ≡ [])
 
--- the view of another hand
+-- The view of another hand.
 abbrev pub IsThief : View → Bool → Type 0
 IsThief v closed =
     (v.filling ≡ false) × (v.owner ≡ false) × (v.known ≡ (place_of v.known, history_of v.known) ∷ [])
     × (closed ≡ false → 0 < v.ends)
 
--- a deque whose hands are being seated: how many seats were given, its owner's among them, of how many
+-- a deque whose hands are being seated: how many seats were given, its owner's among them, of how
+-- many
 pub record Offer : Type 0 where
   pub deque : (ℕ × ℕ) × Global
   pub numbers : List ℕ
   pub made : ℕ
   pub hands : ℕ
 
--- such a deque, by its owner's view
+-- Such a deque, by its owner's view.
 abbrev pub offer_of : (ℕ × ℕ) × Global → View → ℕ → Offer
 offer_of deque v hands = record { deque = deque; numbers = v.numbers; made = v.made; hands = hands }
 
--- the next seat
+-- The next seat.
 abbrev pub next_seat : Offer → Seen
 next_seat o = record { deque = o.deque; numbers = o.numbers; place = o.made; history = [] }
 
--- with so many seats given
+-- With so many seats given.
 abbrev pub offer_with : Offer → ℕ → Offer
 offer_with o made = record { deque = o.deque; numbers = o.numbers; made = made; hands = o.hands }
 
--- what the owner has of it, once all seats are given
+-- What the owner has of it, once all seats are given.
 abbrev pub owned_first : Offer → Owned
 owned_first o = record { seen = record { deque = o.deque; numbers = o.numbers; place = 0; history = [] }; made = o.made }

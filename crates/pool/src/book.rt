@@ -1,4 +1,5 @@
 //! A number that many threads add to, and that each of them may read.
+
 ghost use Rattle.std.specs.Prelude.{◌≡◌, ℕ, ◌+◌, ◌-◌, ◌^◌, ◌<◌, ◌≤◌, min, IfOk, IfErr, vec_len, All, sum_by, length};
 ghost use Rattle.pool.specs.Limits.{load_limit, most_hands};
 
@@ -15,7 +16,8 @@ struct Tally<L: Ledger> {
     ghost is_total: { number ≡ min reported.total (2 ^ 128 - 1) },
 }
 
-/// The sum of what all workers reported, held at the greatest number of 128 bits. L says which shares are of this book.
+/// The sum of what all workers reported, held at the greatest number of 128 bits. L says which
+/// shares are of this book.
 ///
 /// Contracts see nothing of it. It keeps that the ledger has at most 64 parts.
 ///
@@ -97,10 +99,11 @@ impl<L: Ledger> Share<L> {
 }
 
 impl<L: Ledger> Book<L> {
-    /// A book at 0, and a share for each hand, with the sum 0. It asks for 1 to 64 hands, and for a blank of L with as
-    /// many parts.
+    /// A book at 0, and a share for each hand, with the sum 0. It asks for 1 to 64 hands, and for a
+    /// blank of L with as many parts.
     ///
-    /// Example: `Book::<L>::new(alloc, blank, 4)` answers a book and four shares, of a blank with four parts.
+    /// Example: `Book::<L>::new(alloc, blank, 4)` answers a book and four shares, of a blank with
+    /// four parts.
     ///
     /// # Errors
     ///
@@ -131,11 +134,12 @@ impl<L: Ledger> Book<L> {
         Ok((Book { tally }, shares))
     }
 
-    /// Adds a weight to the share and to the book, and answers the book's number after it, which others may have added
-    /// to. The number is not below the share's sum, and is that sum where the book has one share. It may wait for the
-    /// lock. It asks that the share's sum stays below 2^63.
+    /// Adds a weight to the share and to the book, and answers the book's number after it, which
+    /// others may have added to. The number is not below the share's sum, and is that sum where the
+    /// book has one share. It may wait for the lock. It asks that the share's sum stays below 2^63.
     ///
-    /// Example: where the only share of a book has the sum 3, `book.report(rt, &mut share, 4)` answers 7.
+    /// Example: where the only share of a book has the sum 3, `book.report(rt, &mut share, 4)`
+    /// answers 7.
     pub fn report<R: Wait>(&self, rt: &R, share: &mut Share<L>, weight: u64) -> u128
         requires { share.old.sum + weight < load_limit }
         ensures sum { share.new.sum ≡ share.old.sum + weight }
@@ -147,8 +151,9 @@ impl<L: Ledger> Book<L> {
         self.tally.lock(rt).add(token, weight)
     }
 
-    /// The sum of all shares. It asks for as many shares as the ledger has parts. `new` makes so many, and none is made
-    /// otherwise, so these are all of them, in whatever order. It waits for nobody.
+    /// The sum of all shares. It asks for as many shares as the ledger has parts. `new` makes so
+    /// many, and none is made otherwise, so these are all of them, in whatever order. It waits for
+    /// nobody.
     ///
     /// Example: where a book has two shares, of the sums 8 and 4, `book.close(shares)` answers 12.
     pub fn close(self, shares: Vec<Share<L>>) -> u128

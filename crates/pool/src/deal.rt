@@ -1,4 +1,5 @@
 //! Hands, which take numbers from their own deque, and then from those of the others.
+
 ghost use Rattle.std.specs.Prelude.{◌≢◌, length, ◌%◌, ◌↔◌, All, IsTrue, ◌≡◌, ℕ, List, ◌+◌, ◌-◌, ◌<◌, ◌≤◌, true, false, [], ◌∷◌, ◌++◌, MatchOption, IfOk, IfSome, IfNone};
 ghost use Rattle.pool.specs.Seen.{Seen, Took, FoundEmpty, with_seen};
 ghost use Rattle.pool.specs.Inside.Views.{Looked};
@@ -130,8 +131,8 @@ pub enum Next {
 /// One worker's end of a deal: its own deque, and its way into the deques of the other hands.
 /// Contracts see what the hand knows of each, and what it was given from it, in order.
 ///
-/// Example: where 4 pieces were dealt to 2 hands and hand 0 alone is asked, it answers the pieces 0 and 2, which are
-/// its own, and then 1, which it steals.
+/// Example: where 4 pieces were dealt to 2 hands and hand 0 alone is asked, it answers the pieces 0
+/// and 2, which are its own, and then 1, which it steals.
 pub struct Hand {
     number: usize,
     hands: usize,
@@ -195,10 +196,12 @@ fn steal(others: &mut Vec<StealHandle>) -> Option<u32>
 }
 
 impl Hand {
-    /// A piece: the first of the hand's own deque, or, once that is empty, the first of another's. It tries each other
-    /// deque once, from the next hand's on and round. It takes no lock, waits for nobody, and returns.
+    /// A piece: the first of the hand's own deque, or, once that is empty, the first of another's.
+    /// It tries each other deque once, from the next hand's on and round. It takes no lock, waits
+    /// for nobody, and returns.
     ///
-    /// Example: where 8 pieces were dealt to 4 hands and hand 1 is the first that is asked, it answers `Piece(1)`.
+    /// Example: where 8 pieces were dealt to 4 hands and hand 1 is the first that is asked, it
+    /// answers `Piece(1)`.
     pub fn next(&mut self) -> Next
         ensures answer { Answers self.old self.new result }
         ensures holding { IsHolding self.new }
@@ -217,8 +220,8 @@ impl Hand {
 }
 
 impl LocalQueue {
-    /// The owner of the deque looks at what all other hands know of it: those before the owner in the deal, and those
-    /// after it. One schedule goes on from that, and from what the owner knows.
+    /// The owner of the deque looks at what all other hands know of it: those before the owner in
+    /// the deal, and those after it. One schedule goes on from that, and from what the owner knows.
     fn compare_with(&mut self, before: &mut [Hand], after: &mut [Hand])
         requires few { length before.old + length after.old < most_hands }
         requires count { self.old.made ≡ length before.old + length after.old + 1 }
@@ -264,7 +267,8 @@ impl Hand {
     }
 }
 
-/// One schedule goes on from what each hand knows of the deque of the hand d, and gives each what it has of it.
+/// One schedule goes on from what each hand knows of the deque of the hand d, and gives each what
+/// it has of it.
 fn compare_at(hands: &mut [Hand], d: usize)
     requires deal { AreAll hands.old }
     requires low { d < length hands.old }
@@ -279,7 +283,8 @@ fn compare_at(hands: &mut [Hand], d: usize)
     mine.compare_with(before, after);
 }
 
-/// One schedule of the deal goes on from what each hand knows, and gives each hand what it has. It takes no memory.
+/// One schedule of the deal goes on from what each hand knows, and gives each hand what it has. It
+/// takes no memory.
 pub fn compare_all(hands: &mut [Hand])
     requires deal { AreAll hands.old }
     ensures same { hands.new ≡ hands.old }
@@ -302,11 +307,13 @@ fn are_all_spent(hands: &[Hand]) -> bool
     true
 }
 
-/// Whether each hand of the deal has answered Spent. Then what they were given, joined, is each piece exactly once;
-/// and whatever it answers, one schedule gave the hands what they have. It takes no memory, and leaves the hands as
-/// they were. It asks for all hands of one deal, from hand 0 on.
+/// Whether each hand of the deal has answered Spent. Then what they were given, joined, is each
+/// piece exactly once; and whatever it answers, one schedule gave the hands what they have. It
+/// takes no memory, and leaves the hands as they were. It asks for all hands of one deal, from hand
+/// 0 on.
 ///
-/// Example: of a new deal it answers `false`; of one without a piece it answers `true` once each hand was asked.
+/// Example: of a new deal it answers `false`; of one without a piece it answers `true` once each
+/// hand was asked.
 pub fn settled(hands: &mut [Hand]) -> bool
     requires deal { AreAll hands.old }
     ensures same { hands.new ≡ hands.old }
@@ -319,8 +326,8 @@ pub fn settled(hands: &mut [Hand]) -> bool
     are_all_spent(hands)
 }
 
-/// What the hands of a deal have, where one schedule gives it to them: no piece is in two lists, none is passed over,
-/// and where each hand has answered Spent, each piece is in one list, once.
+/// What the hands of a deal have, where one schedule gives it to them: no piece is in two lists,
+/// none is passed over, and where each hand has answered Spent, each piece is in one list, once.
 ///
 /// Example: of a deal of 8 pieces to 2 hands, where 4 is in some list, so are 0 and 2.
 pub fn run_law()
@@ -402,9 +409,9 @@ impl StealHandle {
     }
 }
 
-/// The owner of the deque takes in the seats of these hands and of `more`, learns that one schedule goes on from what
-/// all know, and gives the seats back. The first of these hands has its seat at this place of its round, each further
-/// one a place lower, and those of `more` lower still.
+/// The owner of the deque takes in the seats of these hands and of `more`, learns that one schedule
+/// goes on from what all know, and gives the seats back. The first of these hands has its seat at
+/// this place of its round, each further one a place lower, and those of `more` lower still.
 #[cycle(compare)]
 fn compare(worker: &mut Deque, hands: &mut [Hand], more: &mut [Hand], place: usize)
     requires place { (place ≡ length hands.old + length more.old) × (place < most_hands) }

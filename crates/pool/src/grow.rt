@@ -1,4 +1,5 @@
 //! Lists that grow.
+
 ghost use Rattle.std.specs.Prelude.{◌≡◌, ◌+◌, [], ◌∷◌, ◌++◌, OnOk, vec_len};
 
 use std::alloc::AllocError;

@@ -1,4 +1,5 @@
 //! What a pool works on, and what it answers.
+
 ghost use Rattle.std.specs.Prelude.{◌≡◌, ℕ, ◌+◌, ◌<◌, IfOk};
 ghost use Rattle.pool.specs.Lawful.{Lawful};
 ghost use Rattle.pool.specs.Reduction.{Reduction};
@@ -9,7 +10,8 @@ use std::alloc::AllocError;
 
 /// What all pieces of a work come to, under a limit of their weights.
 ///
-/// Example: four pieces of the weight 1 come to `Whole` under the limit 4, and to `Over` under the limit 3.
+/// Example: four pieces of the weight 1 come to `Whole` under the limit 4, and to `Over` under the
+/// limit 3.
 #[derive(Drop)]
 pub enum Outcome<P> {
     /// All pieces combined. Their weights add up to at most the limit.
@@ -39,12 +41,13 @@ impl From<AllocError> for PoolFault {
 
 /// Numbered pieces, each of which gives a part. Parts combine, in whatever order and grouping.
 ///
-/// Each part means something, and what holds of parts is said of their meanings. A part has a weight, which a limit
-/// counts, and a load, which bounds its weight. Both add up when parts combine, and no sum of loads is to reach 2^63.
-/// An implementation says what its meanings are, and proves that they keep the laws of `Lawful`.
+/// Each part means something, and what holds of parts is said of their meanings. A part has a
+/// weight, which a limit counts, and a load, which bounds its weight. Both add up when parts
+/// combine, and no sum of loads is to reach 2^63. An implementation says what its meanings are, and
+/// proves that they keep the laws of `Lawful`.
 ///
-/// Example: a work whose piece i is the number i, and whose parts are numbers that are added. Its pieces below 4 come
-/// to 6.
+/// Example: a work whose piece i is the number i, and whose parts are numbers that are added. Its
+/// pieces below 4 come to 6.
 pub trait Work {
     /// What a piece gives, and what parts combine to.
     type Part: Send + Drop;
@@ -54,9 +57,9 @@ pub trait Work {
 
     ghost meaning: { Self.Part → Self.Meaning };
 
-    /// What a fold over the pieces of this work combines: which meanings parts have, what nothing at all and what each
-    /// piece comes to, what two parts come to together, and what a part counts against a limit. The load of a part is
-    /// never less than its weight.
+    /// What a fold over the pieces of this work combines: which meanings parts have, what nothing
+    /// at all and what each piece comes to, what two parts come to together, and what a part counts
+    /// against a limit. The load of a part is never less than its weight.
     ghost reduction: { Self → Reduction Self.Meaning };
 
     /// The part of no piece, which has no weight and no load.
@@ -79,7 +82,8 @@ pub trait Work {
     fn piece(&self, i: u32) -> Result<Self::Part, AllocError>
         ensures { IfOk result (λ p. Self.meaning p ≡ (Self.reduction self.now).piece i) };
 
-    /// Two parts as one. It asks that both are parts of this work, and that their loads add up to less than 2^63.
+    /// Two parts as one. It asks that both are parts of this work, and that their loads add up to
+    /// less than 2^63.
     ///
     /// Example: where parts are numbers that are added, `work.combine(2, 3)` answers 5.
     ///
@@ -94,8 +98,9 @@ pub trait Work {
         ensures { IfOk result (λ p. Self.meaning p
             ≡ (Self.reduction self.now).combine (Self.meaning a) (Self.meaning b)) };
 
-    /// A part with one piece more. It may be written anew where a piece can go onto a part without a part of its own.
-    /// It asks that the part is one of this work, and that its load and the piece's add up to less than 2^63.
+    /// A part with one piece more. It may be written anew where a piece can go onto a part without
+    /// a part of its own. It asks that the part is one of this work, and that its load and the
+    /// piece's add up to less than 2^63.
     ///
     /// Example: where piece i is the number i, and parts are added, `work.add(2, 3)` answers 5.
     ///
@@ -114,7 +119,8 @@ pub trait Work {
         self.combine(part, piece)
     }
 
-    /// What the part counts against a limit. It asks that the part is one of this work, of a load below 2^63.
+    /// What the part counts against a limit. It asks that the part is one of this work, of a load
+    /// below 2^63.
     ///
     /// Example: where a part stands for lines of a file, the number of those that are refused.
     fn weight(&self, p: &Self::Part) -> u64
@@ -122,7 +128,8 @@ pub trait Work {
             × ((Self.reduction self.now).load (Self.meaning p.now) < load_limit) }
         ensures { result ≡ (Self.reduction self.now).weight (Self.meaning p.now) };
 
-    /// The part's load. No weight is above it. It asks that the part is one of this work, of a load below 2^63.
+    /// The part's load. No weight is above it. It asks that the part is one of this work, of a load
+    /// below 2^63.
     ///
     /// Example: where a part stands for lines of a file, the number of all of them.
     fn load(&self, p: &Self::Part) -> u64

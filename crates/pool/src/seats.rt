@@ -1,4 +1,6 @@
-//! A deal: its deques are filled in one pass over the pieces, and then each hand gets its seat at each of them.
+//! A deal: its deques are filled in one pass over the pieces, and then each hand gets its seat at
+//! each of them.
+
 ghost use Rattle.std.specs.Prelude.{◌≡◌, ℕ, ◌+◌, ◌<◌, ◌≤◌, List, All, IfOk, OnOk, length, vec_len, [], ◌∷◌, ◌++◌};
 ghost use Rattle.pool.specs.Dealing.{AreStepsOf, IsEachInOnePlace, deal_after, deal_begin};
 ghost use Rattle.pool.specs.Seen.{Seen};
@@ -185,7 +187,8 @@ fn make_hands(
 
 /// Numbered pieces, dealt to hands.
 ///
-/// Example: of 5 pieces that are dealt to 2 hands, hand 0 owns the pieces 0, 2 and 4, and hand 1 owns 1 and 3.
+/// Example: of 5 pieces that are dealt to 2 hands, hand 0 owns the pieces 0, 2 and 4, and hand 1
+/// owns 1 and 3.
 #[derive(Drop)]
 pub struct Deal {
     hands: Vec<Hand>,
@@ -201,9 +204,10 @@ impl Model for Deal {
 }
 
 impl Deal {
-    /// Deals the pieces below this number to as many deques as there are hands. Hand h owns the deque of the pieces
-    /// that are congruent to h modulo the number of hands, in ascending order. No piece is added later. It asks for at
-    /// most 1,048,576 pieces, which may be none, and 1 to 64 hands.
+    /// Deals the pieces below this number to as many deques as there are hands. Hand h owns the
+    /// deque of the pieces that are congruent to h modulo the number of hands, in ascending order.
+    /// No piece is added later. It asks for at most 1,048,576 pieces, which may be none, and 1 to
+    /// 64 hands.
     ///
     /// Example: `Deal::new(alloc, 4, 2)` deals the pieces 0 and 2 to hand 0, and 1 and 3 to hand 1.
     ///
@@ -235,11 +239,12 @@ impl Deal {
     }
 }
 
-/// Between any two steps of any schedule each piece of a deal is in just one deque or just one hand's list, once. A
-/// step, which is said by a deque and a hand, moves the deque's first piece to the end of what the hand has of it.
+/// Between any two steps of any schedule each piece of a deal is in just one deque or just one
+/// hand's list, once. A step, which is said by a deque and a hand, moves the deque's first piece to
+/// the end of what the hand has of it.
 ///
-/// Example: of a deal of 4 pieces to 2 hands, after hand 1 took from deque 0 and hand 0 from deque 1, the deques have
-/// the pieces 2 and 3, and the hands 1 and 0.
+/// Example: of a deal of 4 pieces to 2 hands, after hand 1 took from deque 0 and hand 0 from deque
+/// 1, the deques have the pieces 2 and 3, and the hands 1 and 0.
 pub fn dealing_law()
     ensures { (hands pieces : ℕ) (schedule : List (ℕ × ℕ)) → 0 < hands → AreStepsOf hands schedule
         → IsEachInOnePlace hands pieces (deal_after schedule (deal_begin hands pieces)) }

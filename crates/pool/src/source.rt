@@ -1,4 +1,5 @@
 //! A deque that is filled, and then gives out its seats.
+
 ghost use Rattle.std.specs.Prelude.{◌≡◌, ℕ, ◌+◌, ◌-◌, ◌<◌, ◌≤◌, ◌^◌, true, false, [], ◌∷◌, ◌++◌, IfOk, OnOk};
 ghost use Rattle.pool.specs.Dealing.{residue_class};
 ghost use Rattle.pool.specs.Seen.{Seen, Owned};
@@ -14,8 +15,9 @@ use std::marker::Model;
 /// How many words of padding there are: as many as a line of the processor's cache has.
 const LINE: usize = 8;
 
-/// Padding for the cache: room that nobody uses, taken before a deque is made. It keeps what the owner of one deque
-/// reads at each take off the line of the cache that the owner of the next one writes at each take.
+/// Padding for the cache: room that nobody uses, taken before a deque is made. It keeps what the
+/// owner of one deque reads at each take off the line of the cache that the owner of the next one
+/// writes at each take.
 pub type CachePad = Vec<u64>;
 
 /// A deque that is being filled. Contracts see it as its numbers.

@@ -1,4 +1,5 @@
 //! The hands of a deal, each on a thread of its own.
+
 ghost use Rattle.std.specs.Prelude.{◌≡◌, ℕ, ◌+◌, ◌-◌, ◌^◌, ◌<◌, ◌≤◌, ◌⊎◌, ◌++◌, ◌∷◌, [], All, IfOk, IfErr, IsOkAnd, MatchResult, vec_len, map, min};
 ghost use Rattle.pool.specs.Totals.{once_below};
 ghost use Rattle.pool.specs.Reduction.{load_below, load_onto, piece_weight, weight_with};
@@ -18,9 +19,9 @@ ghost use Rattle.pool.specs.Limits.{load_limit, most_pieces, most_hands};
 
 use crate::book::{Book, Share};
 use crate::deal::{Hand, compare_all};
-use crate::seats::Deal;
 use crate::grow::put_last;
 use crate::laws::{Outcome, PoolFault, Work};
+use crate::seats::Deal;
 use crate::worker::{Crew, Progress, go_on, start};
 use std::alloc::{AllocError, Global};
 use std::marker::{Brand, Send, Sync};
@@ -29,8 +30,8 @@ use std::sync::ledger::{Blank, Ledger};
 use std::thread;
 use std::thread::{Scope, Threads};
 
-/// What the others gave back, and behind it what one more worker did, unless one of them met a fault: that of the
-/// others comes first.
+/// What the others gave back, and behind it what one more worker did, unless one of them met a
+/// fault: that of the others comes first.
 fn add_done<P: Drop, L: Ledger>(
     others: Result<Vec<Progress<P, L>>, PoolFault>,
     done: Result<Progress<P, L>, AllocError>,
@@ -45,8 +46,8 @@ fn add_done<P: Drop, L: Ledger>(
     Ok(all)
 }
 
-/// Each worker goes on until its hand is spent or the book is above the crew's `stop`: the first on the calling thread,
-/// each other on its own, and where there is no piece all on the calling one.
+/// Each worker goes on until its hand is spent or the book is above the crew's `stop`: the first on
+/// the calling thread, each other on its own, and where there is no piece all on the calling one.
 fn spread<'s, E, W: Work + Sync, L: Ledger + Send + Sync, R: Threads + Wait + Sync>(
     scope: &Scope<'s, E>,
     crew: &'s Crew<'s, W, L, R>,
@@ -98,7 +99,8 @@ fn spread_in_scope<W: Work + Sync, L: Ledger + Send + Sync, R: Threads + Wait + 
     )
 }
 
-/// Each worker goes on until its hand is spent, on the calling thread. No number of the book stops it.
+/// Each worker goes on until its hand is spent, on the calling thread. No number of the book stops
+/// it.
 fn finish_all<W: Work, L: Ledger, R: Wait>(
     crew: &Crew<'_, W, L, R>,
     gathered: Vec<Progress<W::Part, L>>,
@@ -246,8 +248,8 @@ fn keep_apart(hands: &mut Vec<Hand>)
     compare_all(hands.as_mut_slice());
 }
 
-/// The hands of a new deal work, each on a thread of its own, as `spread` says. Where the parts do not weigh more than
-/// `limit` then, each goes on until it is spent, on the calling thread.
+/// The hands of a new deal work, each on a thread of its own, as `spread` says. Where the parts do
+/// not weigh more than `limit` then, each goes on until it is spent, on the calling thread.
 fn work_through<W: Work + Sync, L: Ledger + Send + Sync, R: Threads + Wait + Sync>(
     crew: Crew<'_, W, L, R>,
     limit: u64,
@@ -271,7 +273,8 @@ fn work_through<W: Work + Sync, L: Ledger + Send + Sync, R: Threads + Wait + Syn
     finish_all(&crew, gathered)
 }
 
-/// What comes of parts that weigh so much together: all of them as one, or `Over` where that is more than `limit`.
+/// What comes of parts that weigh so much together: all of them as one, or `Over` where that is
+/// more than `limit`.
 fn conclude<W: Work>(
     work: &W,
     weight: u64,
@@ -293,8 +296,9 @@ fn conclude<W: Work>(
     Ok(Outcome::Whole(part))
 }
 
-/// The hands of a new deal work, as `work_through` says, and what comes of it is decided: the parts that they begin
-/// with and all pieces, combined, or `Over`. The hands and shares come back in their order.
+/// The hands of a new deal work, as `work_through` says, and what comes of it is decided: the parts
+/// that they begin with and all pieces, combined, or `Over`. The hands and shares come back in
+/// their order.
 fn fan_ready<W: Work + Sync, L: Ledger + Send + Sync, R: Threads + Wait + Sync>(
     crew: Crew<'_, W, L, R>,
     limit: u64,
@@ -328,8 +332,8 @@ fn fan_ready<W: Work + Sync, L: Ledger + Send + Sync, R: Threads + Wait + Sync>(
     Ok((outcome, hands, shares))
 }
 
-/// Does all pieces of a new deal onto a part that was made before: hand 0 on the calling thread, which goes on with
-/// that part, each other hand on a thread of its own.
+/// Does all pieces of a new deal onto a part that was made before: hand 0 on the calling thread,
+/// which goes on with that part, each other hand on a thread of its own.
 fn fan_onto<W: Work + Sync, L: Ledger + Send + Sync, R: Threads + Wait + Sync>(
     crew: Crew<'_, W, L, R>,
     part: W::Part,
@@ -365,23 +369,25 @@ fn fan_onto<W: Work + Sync, L: Ledger + Send + Sync, R: Threads + Wait + Sync>(
     fan_ready(crew, limit, ready)
 }
 
-/// Does all pieces of a new deal: hand 0 on the calling thread, each other hand on a thread of its own. With one hand,
-/// or no piece, no thread is started.
+/// Does all pieces of a new deal: hand 0 on the calling thread, each other hand on a thread of its
+/// own. With one hand, or no piece, no thread is started.
 ///
-/// Each worker reports its weights to its share of the book, and may stop once the book's number is above `stop`. Where
-/// what they did weighs more than `limit`, the answer is `Over`. Else the calling thread does what is left.
-/// The hands and shares come back in their order.
+/// Each worker reports its weights to its share of the book, and may stop once the book's number is
+/// above `stop`. Where what they did weighs more than `limit`, the answer is `Over`. Else the
+/// calling thread does what is left. The hands and shares come back in their order.
 ///
-/// It asks for all hands of a new deal, from hand 0 on, for as many shares, and that the loads of all pieces, with the
-/// sum of any share, add up to less than 2^63. All threads have ended when it answers.
+/// It asks for all hands of a new deal, from hand 0 on, for as many shares, and that the loads of
+/// all pieces, with the sum of any share, add up to less than 2^63. All threads have ended when it
+/// answers.
 ///
 /// Example: where the hands are those of a new deal of 100 pieces, each of the weight 1,
-/// `fan_on(rt, alloc, &work, hands, 100, &book, 100, shares)` answers `Whole`, the hands, which are settled, and the
-/// shares, whose sums add up to 100 more than before.
+/// `fan_on(rt, alloc, &work, hands, 100, &book, 100, shares)` answers `Whole`, the hands, which are
+/// settled, and the shares, whose sums add up to 100 more than before.
 ///
 /// # Errors
 ///
-/// `ThreadNotStarted` where a thread could not be started, and else `OutOfMemory`. Hands and shares are then given up.
+/// `ThreadNotStarted` where a thread could not be started, and else `OutOfMemory`. Hands and shares
+/// are then given up.
 pub fn fan_on<W: Work + Sync, L: Ledger + Send + Sync, R: Threads + Wait + Sync>(
     rt: &R,
     alloc: Global,
@@ -423,29 +429,31 @@ pub fn fan_on<W: Work + Sync, L: Ledger + Send + Sync, R: Threads + Wait + Sync>
     fan_onto(crew, unit, hands, limit, shares)
 }
 
-/// Does the pieces below a number, at most 1,048,576, onto a part that was made before, by the hands of a new deal,
-/// as many as there are shares, over a book that may have been reported to before: hand 0 works on the calling thread
-/// and goes on with that part, each other hand on a thread of its own. So one book serves several deals, one after
-/// the other. With one hand, or no piece, no thread is started.
+/// Does the pieces below a number, at most 1,048,576, onto a part that was made before, by the
+/// hands of a new deal, as many as there are shares, over a book that may have been reported to
+/// before: hand 0 works on the calling thread and goes on with that part, each other hand on a
+/// thread of its own. So one book serves several deals, one after the other. With one hand, or no
+/// piece, no thread is started.
 ///
-/// A worker may stop once the book's number is above `limit`. The answer is the part and all pieces, combined, or
-/// `Over` where the weight of the part and those of the pieces add up to more than `limit`; the hands of the deal;
-/// and the shares. Hands and shares come in their order, and each share has grown by the weights of the pieces in its
-/// hand's list. No piece is in two lists, and after `Whole` each is in one. What the part weighs is not reported to
-/// the book.
+/// A worker may stop once the book's number is above `limit`. The answer is the part and all
+/// pieces, combined, or `Over` where the weight of the part and those of the pieces add up to more
+/// than `limit`; the hands of the deal; and the shares. Hands and shares come in their order, and
+/// each share has grown by the weights of the pieces in its hand's list. No piece is in two lists,
+/// and after `Whole` each is in one. What the part weighs is not reported to the book.
 ///
-/// It asks for a part of this work whose load and the loads of all pieces add up to less than 2^63, for 1 to 64 shares,
-/// and that the loads of all pieces, with the sum of any share, add up to less than 2^63. All threads have ended when
-/// it answers.
+/// It asks for a part of this work whose load and the loads of all pieces add up to less than 2^63,
+/// for 1 to 64 shares, and that the loads of all pieces, with the sum of any share, add up to less
+/// than 2^63. All threads have ended when it answers.
 ///
-/// Example: where a part is a number, which is its weight too, parts are added, and each of 100 pieces is 1,
-/// `fan_deal_onto(rt, alloc, &work, 5, 100, 105, &book, shares)` answers `Whole(105)`, the hands, which are settled, and
-/// the shares; `fan_deal_onto(rt, alloc, &work, 5, 100, 104, &book, shares)` answers `Over`, hands and shares.
+/// Example: where a part is a number, which is its weight too, parts are added, and each of 100
+/// pieces is 1, `fan_deal_onto(rt, alloc, &work, 5, 100, 105, &book, shares)` answers `Whole(105)`,
+/// the hands, which are settled, and the shares;
+/// `fan_deal_onto(rt, alloc, &work, 5, 100, 104, &book, shares)` answers `Over`, hands and shares.
 ///
 /// # Errors
 ///
-/// `ThreadNotStarted` where a thread could not be started, and else `OutOfMemory`. The part and the shares are then
-/// given up.
+/// `ThreadNotStarted` where a thread could not be started, and else `OutOfMemory`. The part and the
+/// shares are then given up.
 pub fn fan_deal_onto<W: Work + Sync, L: Ledger + Send + Sync, R: Threads + Wait + Sync>(
     rt: &R,
     alloc: Global,
@@ -512,14 +520,16 @@ fn with_book<L: Ledger + Send + Sync, W: Work + Sync, R: Threads + Wait + Sync>(
     Ok(outcome)
 }
 
-/// Does the pieces below a number, at most 1,048,576, on 1 to 64 threads, the calling one among them. With one hand, or
-/// no piece, no thread is started. It answers the combination of all parts, or `Over` where they weigh more than
-/// `limit`.
+/// Does the pieces below a number, at most 1,048,576, on 1 to 64 threads, the calling one among
+/// them. With one hand, or no piece, no thread is started. It answers the combination of all parts,
+/// or `Over` where they weigh more than `limit`.
 ///
-/// It asks that the loads of all pieces add up to less than 2^63. All threads have ended when it answers.
+/// It asks that the loads of all pieces add up to less than 2^63. All threads have ended when it
+/// answers.
 ///
 /// Example: where piece i is the number i, which is its weight too, and parts are added,
-/// `fan_out(rt, alloc, &work, 4, 2, 6)` answers `Whole(6)`, and `fan_out(rt, alloc, &work, 4, 2, 5)` answers `Over`.
+/// `fan_out(rt, alloc, &work, 4, 2, 6)` answers `Whole(6)`, and
+/// `fan_out(rt, alloc, &work, 4, 2, 5)` answers `Over`.
 ///
 /// # Errors
 ///

@@ -1,4 +1,6 @@
-//! One worker: it takes pieces until its hand is spent or the book is above a number, and reports their weights.
+//! One worker: it takes pieces until its hand is spent or the book is above a number, and reports
+//! their weights.
+
 ghost use Rattle.std.specs.Prelude.{◌≡◌, ℕ, ◌+◌, ◌^◌, ◌<◌, ◌-◌, true, IfOk, IfSome};
 ghost use Rattle.pool.specs.Done.{HasResumed, MayResume};
 ghost use Rattle.pool.specs.Inside.Reduction.{piece_load};
@@ -30,8 +32,8 @@ pub struct Crew<'a, W, L: Ledger, R> {
     pub stop: u128,
 }
 
-/// What a worker has: its hand, its share, and a part: what it began with and the pieces in the hand's list, combined.
-/// Contracts see the share as its sum.
+/// What a worker has: its hand, its share, and a part: what it began with and the pieces in the
+/// hand's list, combined. Contracts see the share as its sum.
 #[derive(Drop)]
 pub struct Progress<P, L: Ledger> {
     pub hand: Hand,
@@ -76,7 +78,8 @@ impl<'a, W: Work, L: Ledger> Promise<Result<Progress<W::Part, L>, AllocError>>
         d.hand d.sum (W.meaning d.part)) };
 }
 
-/// Does one piece: the part has one more, and the share's sum its weight more. Also answers the book's number after it.
+/// Does one piece: the part has one more, and the share's sum its weight more. Also answers the
+/// book's number after it.
 fn add_piece<W: Work, L: Ledger, R: Wait>(
     crew: &Crew<'_, W, L, R>,
     share: &mut Share<L>,
@@ -100,8 +103,9 @@ fn add_piece<W: Work, L: Ledger, R: Wait>(
     Ok((part, number))
 }
 
-/// Takes pieces until the hand is spent, or the book answers a number above `stop`. No number is above the greatest.
-/// What the worker began with, the unit or a part that was made before, stays in the part.
+/// Takes pieces until the hand is spent, or the book answers a number above `stop`. No number is
+/// above the greatest. What the worker began with, the unit or a part that was made before, stays
+/// in the part.
 fn take_pieces<W: Work, L: Ledger, R: Wait>(
     crew: &Crew<'_, W, L, R>,
     hand: &mut Hand,

@@ -15,7 +15,8 @@ pub fn derives_one()
     query_parser::derives_one();
 }
 
-/// A law, with no work to do: each text derives a query or has a fault; never both, and no text has two faults.
+/// A law, with no work to do: each text derives a query or has a fault; never both, and no text has
+/// two faults.
 pub fn derives_or_refused()
     ensures decided { (text : List ℕ)
         → ((q : Query) × Derives text q) ⊎ ((fault : QueryFault) × IsRefusalOf text fault) }
@@ -25,8 +26,8 @@ pub fn derives_or_refused()
         → IsRefusalOf text other → fault ≡ other }
 {}
 
-/// A law, with no work to do: the canonical text of a query that has any text is a text of that query, whatever the length
-/// of either.
+/// A law, with no work to do: the canonical text of a query that has any text is a text of that
+/// query, whatever the length of either.
 pub fn reads_again()
     ensures { (q : Query) → ∥ ((text : List ℕ) × IsTextOf text q) ∥₁
         → IsTextOf (canonical_text q) q }

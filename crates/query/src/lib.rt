@@ -3,8 +3,8 @@
 //! This crate is the whole public surface of the language. The crates below it have its parts: the
 //! syntax tree (`query_ast`), the tokens (`query_lexer`), the grammar (`semantics` defines it;
 //! `query_parser` reads it), the canonical text (`query_printer`), what its parts are resolved to
-//! (`query_resolve`), typing (`query_typecheck`), the truth of predicates (`query_eval`), and queries
-//! with their plans (`query_plan`).
+//! (`query_resolve`), typing (`query_typecheck`), the truth of predicates (`query_eval`), and
+//! queries with their plans (`query_plan`).
 #![tactic(auto)]
 
 mod laws;

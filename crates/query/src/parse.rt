@@ -23,10 +23,10 @@ const MAX_BYTES: usize = 65_536;
 ///
 /// # Errors
 ///
-/// `OverLimit` for a text of more than 65,536 bytes, before anything else. Then the whole text has to
-/// spell tokens: `NoToken` names the byte where none begins, from 0. Then `Unexpected` names the byte
-/// of the first token that does not continue a query, or the length of the text where its end does
-/// not; where the tokens before it are more than the limits allow, the fault is `OverLimit`.
+/// `OverLimit` for a text of more than 65,536 bytes, before anything else. Then the whole text has
+/// to spell tokens: `NoToken` names the byte where none begins, from 0. Then `Unexpected` names the
+/// byte of the first token that does not continue a query, or the length of the text where its end
+/// does not; where the tokens before it are more than the limits allow, the fault is `OverLimit`.
 /// `OutOfMemory` says nothing of the text.
 #[tactic(auto, using(crate::proofs::Places::unexpected_at, crate::proofs::Places::too_much))]
 pub fn parse(alloc: Global, text: &str) -> Result<Query, QueryFault>

@@ -30,7 +30,8 @@ abbrev pub function_form_of : Aggregate → Option (Box syntax.Predicate Global)
 function_form_of f None = over_all f
 function_form_of f (Some p) = over_filtered f p.value
 
--- A set function whose predicate is seen by its form already, and so for the three steps that follow.
+-- A set function whose predicate is seen by its form already, and so for the three steps that
+-- follow.
 abbrev pub function_step : SetFunction-F syntax.Expression syntax.Operand syntax.Predicate syntax.SetFunction → syntax.SetFunction
 function_step f = function_form_of f.aggregate f.filter
 

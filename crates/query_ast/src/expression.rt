@@ -17,14 +17,16 @@ pub struct SetFunction {
 
 /// What an item, a key or an operand computes.
 ///
-/// Example: in `SELECT shop, COUNT(*) FROM lines GROUP BY shop` the items compute a `Name` and a `Function`.
+/// Example: in `SELECT shop, COUNT(*) FROM lines GROUP BY shop` the items compute a `Name` and a
+/// `Function`.
 #[cycle(expression)]
 #[derive(PartialEq, Drop)]
 pub enum Expression {
     /// A column, or in ORDER BY an alias.
     Name(Text),
-    /// `GROUPING(x, y)`, by its columns, ISO/IEC 9075-2 `<grouping operation>`: a number with a binary
-    /// digit for each, the last one's lowest, 0 where the row's grouping set has the column, else 1.
+    /// `GROUPING(x, y)`, by its columns, ISO/IEC 9075-2 `<grouping operation>`: a number with a
+    /// binary digit for each, the last one's lowest, 0 where the row's grouping set has the column,
+    /// else 1.
     Grouping(Vec<Text>),
     /// A set function, in a box, since it is several times as long as a name.
     Function(Box<SetFunction>),
@@ -45,7 +47,8 @@ pub enum Operand {
 /// A predicate, ISO/IEC 9075-2 `<search condition>`. A mark `not` says that NOT stands before
 /// BETWEEN or IN, or after IS.
 ///
-/// Example: `a AND b OR c` is `Or` of two parts: `And` of the columns `a` and `b`, and the column `c`.
+/// Example: `a AND b OR c` is `Or` of two parts: `And` of the columns `a` and `b`, and the column
+/// `c`.
 #[cycle(expression)]
 #[derive(PartialEq, Drop)]
 pub enum Predicate {

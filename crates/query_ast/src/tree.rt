@@ -30,8 +30,8 @@ pub struct Key {
 
 /// The tree of a query, ISO/IEC 9075-2 `<query specification>` with its `<order by clause>`.
 ///
-/// Example: `SELECT COUNT(*) FROM lines WHERE member` has one item and a WHERE; it has no element of GROUP BY, no
-/// HAVING and no key.
+/// Example: `SELECT COUNT(*) FROM lines WHERE member` has one item and a WHERE; it has no element
+/// of GROUP BY, no HAVING and no key.
 #[derive(Drop)]
 pub struct Tree {
     /// The items of SELECT, one or more, ISO/IEC 9075-2 `<select list>`.
@@ -45,6 +45,7 @@ pub struct Tree {
     pub groups: Vec<GroupingElement>,
     /// The predicate of HAVING, where there is one, ISO/IEC 9075-2 `<having clause>`.
     pub having_condition: Option<Predicate>,
-    /// The keys of ORDER BY, none where it is not written, ISO/IEC 9075-2 `<sort specification list>`.
+    /// The keys of ORDER BY, none where it is not written, ISO/IEC 9075-2
+    /// `<sort specification list>`.
     pub keys: Vec<Key>,
 }

@@ -20,7 +20,8 @@ second_holds : (a b : Bool) → (a && b) ≡ true → b ≡ true
 second_holds true b h = h
 second_holds false b h = absurd cc
 
--- A condition that is worth what a predicate is, and can be evaluated where that is typed, is its condition.
+-- A condition that is worth what a predicate is, and can be evaluated where that is typed, is its
+-- condition.
 pub filter_condition : (fields : List Field) (p : Predicate) (c : Condition) → GivesPredicate (record_scope fields) p c → IsSafeWhereTyped (record_scope fields) p c → IsConditionOf fields (Some p) (Some c)
 filter_condition fields p c gives safe = record { worth = λ values. gives values; safe = λ grouped typed values fits. safe grouped typed values (record-values fields values fits) }
 

@@ -1,4 +1,5 @@
--- Operands that are typed have values that are there, and that can be compared where their types agree.
+-- Operands that are typed have values that are there, and that can be compared where their types
+-- agree.
 use Rattle.std.proofs.Common.{◌≡◌, ◌∙◌, ◌<◌, ◌⊎◌, inl, inr, ℕ, zero, suc, Bool, true, false, ◌&&◌, Option, Some, None, List, [], ◌∷◌, get_or, map, length, nat_lt, refl, sym, ap, subst, arith}
 use Rattle.std.proofs.lemmas.List.{length-map}
 use Rattle.std.proofs.lemmas.Bool.Decides.{nat_tests}

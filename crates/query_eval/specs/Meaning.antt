@@ -1,5 +1,5 @@
--- What a resolved predicate is worth under values, and when it can be evaluated. Contracts within the language's crates
--- alone speak of it: what a predicate is worth is said in Truth.
+-- What a resolved predicate is worth under values, and when it can be evaluated. Contracts within
+-- the language's crates alone speak of it: what a predicate is worth is said in Truth.
 use Rattle.std.specs.Prelude.{Bool, true, ◌&&◌, List, map, length, nat_lt, slice_get, unwrap_or}
 use Rattle.std.specs.List.{list_all}
 use Rattle.semantics.specs.declared.kind.Kind.{Kind}
@@ -16,17 +16,17 @@ use Rattle.query_eval.specs.declared.condition.Condition.TheOpen.{Condition-F}
 use Rattle.query_eval.specs.declared.condition.Condition.TheOpen as layer
 use Rattle.query_eval.specs.declared.condition.Condition.TheFolds.{fold-Condition}
 
--- the value of a source, NULL where there is none
+-- The value of a source, NULL where there is none.
 abbrev pub source_value : List Datum → OperandSource → Datum
 source_value values (source.Value place) = unwrap_or (slice_get values place) null
 source_value values (source.Literal a) = datum_of a
 
--- whether there is a value at the place of a source
+-- Whether there is a value at the place of a source.
 abbrev pub is_there : List Datum → OperandSource → Bool
 is_there values (source.Value place) = nat_lt place (length values)
 is_there values (source.Literal a) = true
 
--- whether a value is of a type, or NULL
+-- Whether a value is of a type, or NULL.
 abbrev pub is_of : Kind → Datum → Bool
 is_of k null = true
 is_of kind.Int (whole n) = true
@@ -34,7 +34,7 @@ is_of kind.Text (text s) = true
 is_of kind.Bool (boolean b) = true
 is_of k d = Bool.false
 
--- whether two values can be compared: they are of one type, or one of them is NULL
+-- Whether two values can be compared: they are of one type, or one of them is NULL.
 abbrev pub comparable : Datum → Datum → Bool
 comparable null b = true
 comparable a null = true
@@ -43,7 +43,7 @@ comparable (whole a) (whole b) = true
 comparable (text a) (text b) = true
 comparable a b = Bool.false
 
--- whether a value is a truth value, or NULL
+-- Whether a value is a truth value, or NULL.
 abbrev pub is_truth_value : Datum → Bool
 is_truth_value null = true
 is_truth_value (boolean b) = true
@@ -62,11 +62,11 @@ truth_step (layer.In x n ls) values = with_not n (member_truth (source_value val
 truth_step (layer.IsNull x n) values = with_not n (known_truth (is_null (source_value values x)))
 truth_step (layer.Holds x) values = value_truth (source_value values x)
 
--- what a condition is worth under values
+-- What a condition is worth under values.
 abbrev pub condition_truth : Condition → List Datum → Truth
 condition_truth = fold-Condition (List Datum → Truth) truth_step
 
--- whether a condition can be evaluated under values, where its parts tell it already
+-- Whether a condition can be evaluated under values, where its parts tell it already.
 abbrev pub safe_step : Condition-F (List Datum → Bool) → List Datum → Bool
 safe_step (layer.Or ps) values = list_all (λ p. p values) ps.items
 safe_step (layer.And ps) values = list_all (λ p. p values) ps.items
@@ -81,7 +81,7 @@ safe_step (layer.In x n ls) values = is_there values x && list_all (comparable (
 safe_step (layer.IsNull x n) values = is_there values x
 safe_step (layer.Holds x) values = is_there values x && is_truth_value (source_value values x)
 
--- whether a condition can be evaluated under values: these are there, only values of one type, or NULL, are compared, and
--- what stands alone is a truth value, or NULL
+-- Whether a condition can be evaluated under values: these are there, only values of one type, or
+-- NULL, are compared, and what stands alone is a truth value, or NULL.
 abbrev pub is_safe : Condition → List Datum → Bool
 is_safe = fold-Condition (List Datum → Bool) safe_step

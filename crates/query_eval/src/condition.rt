@@ -11,8 +11,8 @@ use values::{Op, Truth, Value, compare};
 
 /// Where the value of an operand comes from.
 ///
-/// Example: under the columns `a:bool,q:int` the operand `q` is `OperandSource::Value(1)`, and the operand 5
-/// is `OperandSource::Literal(Value::Int(5))`.
+/// Example: under the columns `a:bool,q:int` the operand `q` is `OperandSource::Value(1)`, and the
+/// operand 5 is `OperandSource::Literal(Value::Int(5))`.
 #[derive(Drop)]
 pub enum OperandSource {
     /// The value at this place, from 0.
@@ -21,8 +21,8 @@ pub enum OperandSource {
     Literal(Value),
 }
 
-/// A predicate whose operands are places of values, and literals. It is made of a predicate once, so
-/// that no name is looked up for each record.
+/// A predicate whose operands are places of values, and literals. It is made of a predicate once,
+/// so that no name is looked up for each record.
 ///
 /// Example: under the columns `a:bool,q:int` the predicate `a` is `Holds(OperandSource::Value(0))`.
 #[derive(Drop)]
@@ -114,8 +114,8 @@ fn null_truth(value: &Value) -> Truth
 }
 
 /// The truth value of `value BETWEEN low AND high`, which is that of
-/// `value >= low AND value <= high`, ISO/IEC 9075-2 `<between predicate>`. It asks that the value and
-/// each end are of one type, or one of the two is NULL.
+/// `value >= low AND value <= high`, ISO/IEC 9075-2 `<between predicate>`. It asks that the value
+/// and each end are of one type, or one of the two is NULL.
 fn between_truth(value: &Value, low: &Value, high: &Value) -> Truth
     requires low { comparable (datum_of value.now) (datum_of low.now) ≡ true }
     requires high { comparable (datum_of value.now) (datum_of high.now) ≡ true }
@@ -141,7 +141,8 @@ fn member_truth(value: &Value, values: &[Value]) -> Truth
     found
 }
 
-/// The truth value that a value is; NULL is Unknown. It asks that the value is a truth value or NULL.
+/// The truth value that a value is; NULL is Unknown. It asks that the value is a truth value or
+/// NULL.
 #[tactic(auto, using(crate::proofs::Truths::value_truth_is))]
 fn value_truth(value: &Value) -> Truth
     requires { is_truth_value (datum_of value.now) ≡ true }
@@ -160,8 +161,8 @@ impl Condition {
     ghost use Rattle.query_eval.specs.Meaning.{condition_truth, is_safe};
 
     /// What the condition is worth under these values. It takes no memory. It asks that there is a
-    /// value at each of its places, that values which are compared are of one type, or one of the two
-    /// is NULL, and that a value which stands alone is a truth value or NULL.
+    /// value at each of its places, that values which are compared are of one type, or one of the
+    /// two is NULL, and that a value which stands alone is a truth value or NULL.
     ///
     /// Example: under the columns `a:bool,q:int` the condition of `a AND q > 2` is False for the
     /// values true and 1, and Unknown for true and NULL.

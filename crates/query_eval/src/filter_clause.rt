@@ -17,10 +17,12 @@ use query_ast::Predicate;
 use std::alloc::{AllocError, Global};
 use values::{Column, Truth, Value};
 
-/// The conditions of the predicates of FILTERs, in their order, under these columns. Where a predicate is typed as
-/// WHERE is, its condition can be evaluated for each record that fits the columns.
+/// The conditions of the predicates of FILTERs, in their order, under these columns. Where a
+/// predicate is typed as WHERE is, its condition can be evaluated for each record that fits the
+/// columns.
 ///
-/// Example: under the columns `a:bool,q:int` the predicate `a` gives `Holds(OperandSource::Value(0))`.
+/// Example: under the columns `a:bool,q:int` the predicate `a` gives
+/// `Holds(OperandSource::Value(0))`.
 ///
 /// # Errors
 ///
@@ -41,11 +43,11 @@ pub fn bind_filters(
     Ok(conditions)
 }
 
-/// Marks which conditions are True for a record of these values, in place of what the marks were. The memory of the
-/// marks is used again. It asks of each condition what `Condition::truth` asks.
+/// Marks which conditions are True for a record of these values, in place of what the marks were.
+/// The memory of the marks is used again. It asks of each condition what `Condition::truth` asks.
 ///
-/// Example: of the conditions of `q > 2` and `NOT q > 2` the marks are `true` and `false` where q is 5, and both are
-/// `false` where q is NULL.
+/// Example: of the conditions of `q > 2` and `NOT q > 2` the marks are `true` and `false` where q
+/// is 5, and both are `false` where q is NULL.
 ///
 /// # Errors
 ///
@@ -67,10 +69,12 @@ pub fn mark_conditions(
     Ok(())
 }
 
-/// What the condition at a place, from 0, is worth for a record of these values. It takes no memory. It asks that the
-/// place is below the number of the conditions, and of each condition what `Condition::truth` asks.
+/// What the condition at a place, from 0, is worth for a record of these values. It takes no
+/// memory. It asks that the place is below the number of the conditions, and of each condition what
+/// `Condition::truth` asks.
 ///
-/// Example: of the conditions of `q > 2` and `NOT q > 2` the one at the place 1 is False where q is 5.
+/// Example: of the conditions of `q > 2` and `NOT q > 2` the one at the place 1 is False where q is
+/// 5.
 pub fn condition_truth_at(conditions: &[Condition], place: usize, values: &[Value]) -> Truth
     requires place { place < length conditions.now }
     requires safe { list_all (λ is_safe. is_safe (data_of values.now)) (map is_safe conditions.now)

@@ -9,8 +9,8 @@ use query_ast::{Expression, Text};
 use query_resolve::place_of;
 use values::{Column, Value};
 
-/// What the names and the other expressions of a clause stand for. A predicate is bound under a scope
-/// once, and its condition is then evaluated for each list of values of the scope.
+/// What the names and the other expressions of a clause stand for. A predicate is bound under a
+/// scope once, and its condition is then evaluated for each list of values of the scope.
 ///
 /// Example: in WHERE the name of a column stands for its value in a record.
 pub trait Scope {
@@ -41,7 +41,8 @@ impl Scope for RecordScope<'_> {
 
     ghost form = { λ scope. record_scope (fields_of scope.columns.now) };
 
-    /// Where the value of a column comes from. What is no column has no value; typing lets none stand.
+    /// Where the value of a column comes from. What is no column has no value; typing lets none
+    /// stand.
     fn name_source(&self, column: &Text) -> OperandSource {
         match place_of(self.columns, column.as_str()) {
             Some(place) => OperandSource::Value(place),
@@ -49,8 +50,8 @@ impl Scope for RecordScope<'_> {
         }
     }
 
-    /// Where the value of an expression comes from. No GROUPING and no set function has one in WHERE;
-    /// typing lets none stand there.
+    /// Where the value of an expression comes from. No GROUPING and no set function has one in
+    /// WHERE; typing lets none stand there.
     fn expression_source(&self, expression: &Expression) -> OperandSource {
         match expression {
             Expression::Name(column) => self.name_source(column),

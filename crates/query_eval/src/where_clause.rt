@@ -17,8 +17,8 @@ use values::{Column, Truth, Value};
 /// The condition of the predicate of WHERE under these columns, where it is written. Where the
 /// predicate is typed, the condition can be evaluated for each record that fits the columns.
 ///
-/// Example: without WHERE it answers `None`; of `WHERE a` under the columns `a:bool,q:int` it answers
-/// `Some` of `Holds(OperandSource::Value(0))`.
+/// Example: without WHERE it answers `None`; of `WHERE a` under the columns `a:bool,q:int` it
+/// answers `Some` of `Holds(OperandSource::Value(0))`.
 ///
 /// # Errors
 ///

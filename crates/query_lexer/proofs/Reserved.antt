@@ -15,7 +15,8 @@ others [] = []
 others (x ∷ xs) = xs
 
 module _ {E : Type 0} (key : E → Word) (letters : E → List ℕ) (test : List ℕ → Bool) where
-  -- the first entry whose letters pass is that of the first word whose letters pass, where the words have these letters
+  -- the first entry whose letters pass is that of the first word whose letters pass, where the
+  -- words have these letters
   found : (es : List E) → map letters es ≡ map (λ e. word_text (key e)) es → option_map key (find (λ e. test (letters e)) es) ≡ find (λ x. test (word_text x)) (map key es)
   found [] h = refl
   found (e ∷ es) h = subst (λ t. option_map key (cond (test (letters e)) (Some e) (find (λ x. test (letters x)) es)) ≡ cond (test t) (Some (key e)) (find (λ x. test (word_text x)) (map key es)))

@@ -1,5 +1,6 @@
--- What the private functions of this crate read in front of a text, one definition for each function, as it computes it.
--- No public contract rests on this file: what a text spells is said in Spelling.
+-- What the private functions of this crate read in front of a text, one definition for each
+-- function, as it computes it. No public contract rests on this file: what a text spells is said in
+-- Spelling.
 use Rattle.std.specs.Prelude.{ℕ, ℤ, pos, List, ◌∷◌, take, drop, Option, Some, None, Bool, true, false, ◌==◌, ◌||◌, ◌^◌, nat_le, nat_lt, cond, [], ◌<◌}
 use Rattle.std.specs.List.{prefix_len}
 use Rattle.std.specs.Char.{is_ascii_digit}

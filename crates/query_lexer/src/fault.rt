@@ -10,8 +10,8 @@ use std::alloc::{AllocError, AllocFailed};
 /// Example: of `SELECT ;` it is `NoToken(7)`.
 #[derive(Drop)]
 pub enum TokenFault {
-    /// At this byte, from 0, no token begins: as at `;`, at a text without its last quote, or at a number
-    /// that 64 bits do not hold.
+    /// At this byte, from 0, no token begins: as at `;`, at a text without its last quote, or at a
+    /// number that 64 bits do not hold.
     NoToken(usize),
     /// Memory was refused. This says nothing of the text.
     OutOfMemory,

@@ -11,14 +11,16 @@ use std::alloc::AllocError;
 ///
 /// A word is an ASCII letter or `_`, and then ASCII letters, digits and `_`.
 ///
-/// Example: `is_plain_name("shop")` answers `true`; of `"select"`, `"my column"` and `""` it answers `false`.
+/// Example: `is_plain_name("shop")` answers `true`; of `"select"`, `"my column"` and `""` it
+/// answers `false`.
 pub fn is_plain_name(name: &str) -> bool
     ensures { result ≡ is_plain_name name.now }
 {
     is_word(name) && reserved_word(name).is_none()
 }
 
-/// Writes the text at the end, between quotes and with each quote in it twice. It asks that the quote is ASCII.
+/// Writes the text at the end, between quotes and with each quote in it twice. It asks that the
+/// quote is ASCII.
 ///
 /// Example: `push_quoted(&mut out, "it's", '\'')` writes `'it''s'` at the end of `out`.
 ///
@@ -43,9 +45,11 @@ pub fn push_quoted(out: &mut String, text: &str, quote: char) -> Result<(), Allo
     Ok(())
 }
 
-/// Writes the name at the end, as canonical texts have it: plain where it can be, else in double quotes.
+/// Writes the name at the end, as canonical texts have it: plain where it can be, else in double
+/// quotes.
 ///
-/// Example: `push_name(&mut out, "shop")` writes `shop`, and `push_name(&mut out, "select")` writes `"select"`.
+/// Example: `push_name(&mut out, "shop")` writes `shop`, and `push_name(&mut out, "select")` writes
+/// `"select"`.
 ///
 /// # Errors
 ///

@@ -20,7 +20,8 @@ use std::alloc::{AllocError, Global};
 
 /// The tokens of a text, and beside each the byte where it begins.
 ///
-/// Example: those of `COUNT( * )` are a word and three signs, which begin at the bytes 0, 5, 7 and 9.
+/// Example: those of `COUNT( * )` are a word and three signs, which begin at the bytes 0, 5, 7 and
+/// 9.
 #[derive(Drop)]
 pub struct Tokens {
     /// The tokens in order.
@@ -80,13 +81,13 @@ fn token(alloc: Global, text: &str) -> Result<Option<(Token, &str)>, AllocError>
 
 /// The tokens that a text spells, each as long as it can be, with white space between them or none.
 ///
-/// Example: `read_tokens(alloc, "n >= 5")` answers the name `n`, the sign `>=` and the whole number 5, which begin
-/// at the bytes 0, 2 and 5; of `"n ; 5"` it answers `NoToken(2)`.
+/// Example: `read_tokens(alloc, "n >= 5")` answers the name `n`, the sign `>=` and the whole number
+/// 5, which begin at the bytes 0, 2 and 5; of `"n ; 5"` it answers `NoToken(2)`.
 ///
 /// # Errors
 ///
-/// `NoToken` with the byte, from 0, behind the tokens in front, where no token begins. `OutOfMemory` where memory
-/// was refused, which says nothing of the text.
+/// `NoToken` with the byte, from 0, behind the tokens in front, where no token begins.
+/// `OutOfMemory` where memory was refused, which says nothing of the text.
 pub fn read_tokens(alloc: Global, text: &str) -> Result<Tokens, TokenFault>
     // What is read is spelled.
     ensures spelled { IfOk result (λ found. Spells text.now found.all.items found.starts.items) }

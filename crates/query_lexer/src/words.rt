@@ -61,9 +61,11 @@ fn word_among(words: &[Word], text: &str) -> Option<Word>
         .find(|word| text.eq_ignore_ascii_case(word_text(*word)))
 }
 
-/// The reserved word that the text is without regard to ASCII case, if it is one. It takes no memory.
+/// The reserved word that the text is without regard to ASCII case, if it is one. It takes no
+/// memory.
 ///
-/// Example: `reserved_word("select")` answers `Some(Word::Select)`, and `reserved_word("shop")` answers `None`.
+/// Example: `reserved_word("select")` answers `Some(Word::Select)`, and `reserved_word("shop")`
+/// answers `None`.
 #[tactic(auto, using(crate::proofs::Reserved::reserved_listed))]
 pub fn reserved_word(text: &str) -> Option<Word>
     ensures { result ≡ reserved_word text.now }

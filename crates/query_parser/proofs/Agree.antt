@@ -1,5 +1,5 @@
--- What a reader of narrow limits reads, and where it finds a token that is not expected, the reader of wider limits does
--- too: the two agree unless the narrow one finds too much.
+-- What a reader of narrow limits reads, and where it finds a token that is not expected, the reader
+-- of wider limits does too: the two agree unless the narrow one finds too much.
 use Rattle.std.proofs.Common.{arith, length, ◌≤◌, ◌+◌, ◌-◌, ◌≡◌, ℕ, zero, suc, Bool, true, false, cond, List, [], ◌∷◌, Option, Some, None, is_some, Result, Ok, Err, refl}
 use Rattle.semantics.specs.declared.token.Token.{Token}
 use Rattle.semantics.specs.declared.token.Sign.TheVariants as s

@@ -118,7 +118,8 @@ module _ (narrow wide : Limits) (wider : Wider narrow wide) where
   query_agrees ts =
       agrees_bind (select_agrees ts) (λ is. agrees_bind (records_agree is.1) (λ a. agrees_bind (rows_agree a.1) (λ b. Agrees.same)))
 
--- What is read of all tokens within narrow limits, and where a token is not expected, is so within wider ones.
+-- What is read of all tokens within narrow limits, and where a token is not expected, is so within
+-- wider ones.
 pub whole_agrees : {narrow wide : Limits} → Wider narrow wide → (ts : List Token)
     → Agrees (whole_at narrow ts) (whole_at wide ts)
 unfolding whole_at

@@ -1,4 +1,5 @@
--- Where the reader of queries stops, tokens go wrong; they do so once, and not where they derive a query.
+-- Where the reader of queries stops, tokens go wrong; they do so once, and not where they derive a
+-- query.
 use Rattle.std.proofs.Common.{arith, length, take, drop, ◌<◌, ◌≤◌, ◌+◌, ◌-◌, ◌≡◌, ◌⊎◌, inl, inr, ℕ, zero, suc, Result, Ok, Err, List, [], ◌∷◌, ◌++◌, refl, sym, ap, subst, ◌∙◌}
 use Rattle.std.proofs.lemmas.List.{append_assoc, length-append, take-append-drop, take-append-le}
 use Rattle.semantics.specs.declared.token.Token.{Token}

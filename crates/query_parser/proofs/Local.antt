@@ -1,4 +1,5 @@
--- A reader looks at no token behind the first one that it leaves: on other tokens with the same front it does the same.
+-- A reader looks at no token behind the first one that it leaves: on other tokens with the same
+-- front it does the same.
 use Rattle.std.proofs.Common.{arith, length, ◌<◌, ◌≤◌, ◌+◌, ◌≡◌, ◌⊎◌, inl, inr, ℕ, zero, suc, Bool, true, false, cond, List, [], ◌∷◌, ◌++◌, Option, Some, None, Result, Ok, Err, refl, sym, ap, subst, ◌∙◌}
 use Rattle.semantics.specs.declared.token.Token.{Token}
 use Rattle.values.specs.Results.{◌>>=◌}
@@ -11,8 +12,8 @@ use Rattle.query_parser.proofs.Inversions.{bind_ok, ok_is}
 
 -- ---- lists of tokens with the same front
 
--- `SameFront ts us rest other`: behind one front, `ts` ends with `rest` and `us` with `other`, and these begin with one
--- token, or are both empty.
+-- `SameFront ts us rest other`: behind one front, `ts` ends with `rest` and `us` with `other`, and
+-- these begin with one token, or are both empty.
 pub data SameFront : List Token → List Token → List Token → List Token → Type 0 where
   end : SameFront [] [] [] []
   here : {t : Token} {rest other : List Token} → SameFront (t ∷ rest) (t ∷ other) (t ∷ rest) (t ∷ other)
@@ -141,8 +142,9 @@ pub record Fault {A : Type 0} (read : Result A Stop) : Type 0 where
   pub fault : Stop
   pub is : read ≡ Err fault
 
--- What a reader finds in front of these tokens it finds in front of all that have the same front, and stops at the same
--- place. Where it is too much it fails whatever stands behind; `strict` is whether it takes a token before that.
+-- What a reader finds in front of these tokens it finds in front of all that have the same front,
+-- and stops at the same place. Where it is too much it fails whatever stands behind; `strict` is
+-- whether it takes a token before that.
 pub record LocalAt {A : Type 0} (strict : Bool) (f : Reader A) (ts : List Token) : Type 0 where
   pub goes : (x : A) (rest : List Token) → f ts ≡ Ok (x, rest) → EndsWith ts rest
   pub same : (us rest other : List Token) (x : A) → f ts ≡ Ok (x, rest) → SameFront ts us rest other → f us ≡ Ok (x, other)

@@ -1,5 +1,5 @@
--- A reader has the valid prefix property: what it takes derives what it reads, whatever stands behind; and where it stops,
--- the tokens before that go on to something that it reads.
+-- A reader has the valid prefix property: what it takes derives what it reads, whatever stands
+-- behind; and where it stops, the tokens before that go on to something that it reads.
 use Rattle.std.proofs.Common.{arith, length, ◌<◌, ◌≤◌, ◌≡◌, ◌⊎◌, inl, inr, ℕ, zero, suc, Bool, true, false, cond, not, List, [], ◌∷◌, ◌++◌, Option, Some, None, Result, Ok, Err, refl, sym, ap, subst, ◌∙◌}
 use Rattle.std.proofs.lemmas.List.{append_assoc, length-append}
 use Rattle.semantics.specs.declared.token.Token.{Token}
@@ -57,9 +57,10 @@ ends_counted none (t ∷ ts) = ends_counted (counted t) ts
 pub data Uncounted : ℕ → List Token → Type 0 where
   token : {t : Token} {ts : List Token} → counted t ≡ false → Uncounted (length ts) (t ∷ ts)
 
--- How far the tokens before a fault go on. Within wider limits than the reader's they go on up to the token that is not
--- expected, and beyond the place where it is too much, up to a token that counts; `strict` says that there is one. Within
--- the reader's own limits they go on up to the token that is not expected, or the one before it that does not count.
+-- How far the tokens before a fault go on. Within wider limits than the reader's they go on up to
+-- the token that is not expected, and beyond the place where it is too much, up to a token that
+-- counts; `strict` says that there is one. Within the reader's own limits they go on up to the
+-- token that is not expected, or the one before it that does not count.
 abbrev pub Reaches : Bool → Bool → Stop → List Token → List Token → Type 0
 Reaches true strict (halts.unexpected left) front back = length back ≡ left
 Reaches true strict (halts.over_limit left) front back = (length back ≤ left) × (ends_counted (not strict) front ≡ true)
@@ -78,7 +79,8 @@ pub record Viable {A : Type 0} (strict wide : Bool) (P : Derivation A) (f : Read
 
 -- ---- fronts in two parts
 
--- A front that ends with a counted token, or is empty behind one, does so behind any front that does.
+-- A front that ends with a counted token, or is empty behind one, does so behind any front that
+-- does.
 ends_twice : (none : Bool) (front behind : List Token) → ends_counted none front ≡ true → ends_counted true behind ≡ true → ends_counted none (front ++ behind) ≡ true
 ends_twice none [] [] e d = e
 ends_twice none [] (t ∷ ts) e d = d
@@ -90,7 +92,8 @@ ends_behind none [] [] d = absurd cc
 ends_behind none [] (t ∷ ts) d = d
 ends_behind none (u ∷ us) behind d = ends_behind (counted u) us behind d
 
--- A fault behind a front is as far behind the whole, where a token stands before it, or none was taken.
+-- A fault behind a front is as far behind the whole, where a token stands before it, or none was
+-- taken.
 reaches_behind : (wide strict : Bool) (e : Stop) (front behind back : List Token) → Reaches wide true e behind back → Reaches wide strict e (front ++ behind) back
 reaches_behind true strict (halts.unexpected left) front behind back r = r
 reaches_behind true strict (halts.over_limit left) front behind back r = (r.0, ends_behind (not strict) front behind r.1)

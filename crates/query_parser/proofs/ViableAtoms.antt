@@ -316,7 +316,8 @@ module _ (wide : Bool) (IsInner : Derivation syntax.Predicate) (inside : Inside)
   unfolding is_after
   is_v x = viable_mark (AfterIsMark x) (λ n us. null_at x n us) (λ us vs ws n q m k zs i. k us zs m i) (null_v x)
 
-  -- What is read behind an operand, where no IS stands right behind it: the rest of its atom, and its truth test.
+  -- What is read behind an operand, where no IS stands right behind it: the rest of its atom, and
+  -- its truth test.
   abbrev tested_at : syntax.Operand → Reader syntax.Predicate
   tested_at x ts = atom_after inside x ts >>= λ p. test_after p.0 p.1
 

@@ -24,8 +24,8 @@ use Rattle.query_parser.proofs.Inversions.{choose_ok}
 use Rattle.query_parser.proofs.Viable.{Phrase, GoesOn, Reaches, Claimed, Uncounted, Viable, BeginsPart, TellsPart, Listed, Closed, Enclosed, Exactly, choose_err, exactly, phrase_behind, phrase_closed, viable_ok, viable_over, viable_loose, viable_bind, viable_made, viable_found_or_stuck, viable_front, viable_closed, counted}
 use Rattle.query_parser.proofs.ViableLeaves.{limits_of, viable_word, name_finds, aggregate_v, Arguments, arguments_v}
 
--- What reads a predicate in brackets is viable, and where something can stand in the brackets, there is a phrase of it:
--- where a level is left, and within the wider limits always.
+-- What reads a predicate in brackets is viable, and where something can stand in the brackets,
+-- there is a phrase of it: where a level is left, and within the wider limits always.
 pub record InsideViable (wide : Bool) (IsInner : Derivation syntax.Predicate) (inside : Inside) : Type 0 where
   pub limits_are : inside.limits ≡ language_limits
   pub read : Viable false wide IsInner inside.read
@@ -135,7 +135,8 @@ no_filter read f ts = of_bracket (after (is_sign s.Open) ts) where
   of_bracket None = inl refl
   of_bracket (Some r) = inr (length r, refl)
 
--- Behind a set function, where nothing can stand in the brackets of a FILTER: the tokens before FILTER go on.
+-- Behind a set function, where nothing can stand in the brackets of a FILTER: the tokens before
+-- FILTER go on.
 unfiltered_v : (IsInner : Derivation syntax.Predicate) (read : Reader syntax.Predicate) (f : Aggregate)
     → Viable true false (AfterAggregate false IsInner f) (function_with false read f)
 unfiltered_v IsInner read f = record {

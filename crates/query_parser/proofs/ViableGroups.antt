@@ -200,8 +200,8 @@ sets_behind m n vg =
             derived = λ other. listed _ other p.value (Enclosed.brackets (p.derived other));
           }
 
--- How many levels of GROUPING SETS there may be within the limits in which a reader of n goes on: one more within the
--- wider ones.
+-- How many levels of GROUPING SETS there may be within the limits in which a reader of n goes on:
+-- one more within the wider ones.
 abbrev pub sets_of : Bool → ℕ → ℕ
 sets_of true n = suc n
 sets_of false n = n

@@ -23,8 +23,8 @@ use Rattle.values.specs.Results.{◌>>=◌}
 use Rattle.query_parser.proofs.Heads.{after_word_is, after_sign_is}
 use Rattle.query_parser.proofs.Viable.{Phrase, Viable, Finds, BeginsPart, TellsPart, AtMost, Listed, Closed, Enclosed, counted, phrase_listed, viable_ok, viable_stuck, viable_as, viable_same, viable_made, viable_choose, viable_found_or_stuck, viable_found_or_stuck_front, viable_more, viable_listed, viable_closed, viable_enclosed}
 
--- The limits within which a reader's fronts go on: those of the language, or ones wider by one, where a fault may be that it
--- is too much.
+-- The limits within which a reader's fronts go on: those of the language, or ones wider by one,
+-- where a fault may be that it is too much.
 abbrev pub limits_of : Bool → Limits
 limits_of false = language_limits
 limits_of true = record { items = 65; arguments = 9; literals = 65; levels = 65; sets = 17 }

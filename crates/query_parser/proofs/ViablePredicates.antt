@@ -134,8 +134,8 @@ module _ (wide : Bool) (IsInner : Derivation Predicate) (inside : Inside) (insid
       (λ p. viable_made conjunctions_at (λ ps. disjunction_of p ps)
       (λ us ws ps l vs i. IsDisjunction.parts i l) conjunctions_v)
 
--- How many levels there may be fewer than, within the limits in which a reader of n goes on: one more within the wider
--- ones.
+-- How many levels there may be fewer than, within the limits in which a reader of n goes on: one
+-- more within the wider ones.
 abbrev pub level_of : Bool → ℕ → ℕ
 level_of true n = suc n
 level_of false n = n

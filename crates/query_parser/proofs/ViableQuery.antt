@@ -1,5 +1,5 @@
--- The reader of queries has the valid prefix property: what it reads is derived, and the tokens before a fault go on to
--- a query.
+-- The reader of queries has the valid prefix property: what it reads is derived, and the tokens
+-- before a fault go on to a query.
 use Rattle.std.proofs.Common.{arith, length, ◌<◌, ◌≤◌, ◌-◌, ◌≡◌, ◌⊎◌, inl, inr, ℕ, suc, Bool, true, false, cond, List, [], ◌∷◌, Option, Some, None, Result, Ok, Err, refl, sym, subst}
 use Rattle.std.specs.Prelude.{codes}
 use Rattle.std.specs.Str.{bytes_eq}

@@ -1,4 +1,5 @@
--- What the reader of whole queries reads is derived, and where it stops, the tokens before that begin a query.
+-- What the reader of whole queries reads is derived, and where it stops, the tokens before that
+-- begin a query.
 use Rattle.std.proofs.Common.{arith, length, take, ◌≤◌, ◌-◌, ◌≡◌, inl, inr, ℕ, Bool, true, false, List, [], ◌∷◌, ◌++◌, Result, Ok, Err, refl, sym, ap, subst, ◌∙◌}
 use Rattle.std.proofs.lemmas.List.{append-nil, append_assoc, length-append}
 use Rattle.std.proofs.Math.Seq.{take-append_seam}

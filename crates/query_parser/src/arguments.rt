@@ -17,8 +17,8 @@ const MAX_ARGUMENTS: usize = 8;
 
 /// Names, as a kind of list.
 ///
-/// Example: `Names::begins` is true of the tokens of `shop, cents`, and false of those of `'shop', 'cents'`, which
-/// are texts.
+/// Example: `Names::begins` is true of the tokens of `shop, cents`, and false of those of
+/// `'shop', 'cents'`, which are texts.
 pub(crate) struct Names;
 
 impl Listed for Names {
@@ -45,15 +45,16 @@ impl Listed for Names {
     }
 }
 
-/// The names in brackets behind GROUPING, 1 to 8 of them, and what stands behind the brackets, ISO/IEC 9075-2
-/// `<grouping operation>`.
+/// The names in brackets behind GROUPING, 1 to 8 of them, and what stands behind the brackets,
+/// ISO/IEC 9075-2 `<grouping operation>`.
 ///
-/// Example: of the tokens of `(shop, day) AS g` it answers the names `shop` and `day`, and the tokens of `AS g`.
+/// Example: of the tokens of `(shop, day) AS g` it answers the names `shop` and `day`, and the
+/// tokens of `AS g`.
 ///
 /// # Errors
 ///
-/// `OverLimit` for a ninth name; `Unexpected` at the first token that continues no such list; `OutOfMemory` where
-/// there is no memory for the names.
+/// `OverLimit` for a ninth name; `Unexpected` at the first token that continues no such list;
+/// `OutOfMemory` where there is no memory for the names.
 #[tactic(auto, unfolding(crate::specs::Inside::LeafSteps::arguments_at))]
 pub(crate) fn grouping_names(
     alloc: Global,

@@ -69,8 +69,8 @@ pub(crate) fn optional_truth_test(
     Ok((Predicate::Is { part, not, truth }, rest))
 }
 
-/// A first operand and what stands behind its IS: NULL, and maybe a truth test of that; or the truth
-/// test of a bare name.
+/// A first operand and what stands behind its IS: NULL, and maybe a truth test of that; or the
+/// truth test of a bare name.
 #[tactic(auto, unfolding(crate::specs::Inside::AtomSteps::is_after))]
 pub(crate) fn null_or_truth_test(
     alloc: Global,

@@ -12,8 +12,8 @@ use query_lexer::{Sign, Token, Word};
 
 /// What stands behind a reserved word in front; `None` where another token or none stands there.
 ///
-/// Example: of the tokens of `FROM lines` and `Word::From` it answers those of `lines`; with `Word::Where` it answers
-/// `None`.
+/// Example: of the tokens of `FROM lines` and `Word::From` it answers those of `lines`; with
+/// `Word::Where` it answers `None`.
 pub(crate) fn after_word(tokens: &[Token], word: Word) -> Option<&[Token]>
     ensures exact { Tells (λ x. x.now) result (after (is_word word) tokens.now) }
     ensures shorter { IfSome result (λ x. length x.now < length tokens.now) }
@@ -26,8 +26,8 @@ pub(crate) fn after_word(tokens: &[Token], word: Word) -> Option<&[Token]>
 
 /// What stands behind a sign in front; `None` where another token or none stands there.
 ///
-/// Example: of the tokens of `, cents` and `Sign::Comma` it answers those of `cents`; with `Sign::Close` it answers
-/// `None`.
+/// Example: of the tokens of `, cents` and `Sign::Comma` it answers those of `cents`; with
+/// `Sign::Close` it answers `None`.
 pub(crate) fn after_sign(tokens: &[Token], sign: Sign) -> Option<&[Token]>
     ensures exact { Tells (λ x. x.now) result (after (is_sign sign) tokens.now) }
     ensures shorter { IfSome result (λ x. length x.now < length tokens.now) }
@@ -38,11 +38,11 @@ pub(crate) fn after_sign(tokens: &[Token], sign: Sign) -> Option<&[Token]>
     }
 }
 
-/// A name in front, and what stands behind it; `None` where another token or none stands there. A reserved word is no
-/// name.
+/// A name in front, and what stands behind it; `None` where another token or none stands there. A
+/// reserved word is no name.
 ///
-/// Example: of the tokens of `shop, cents` it answers `shop` and the tokens of `, cents`; of those of `FROM lines`,
-/// `None`.
+/// Example: of the tokens of `shop, cents` it answers `shop` and the tokens of `, cents`; of those
+/// of `FROM lines`, `None`.
 #[tactic(auto, unfolding(crate::specs::Inside::Steps::name_at))]
 pub(crate) fn name(tokens: &[Token]) -> Option<(&Text, &[Token])>
     ensures exact { Tells (λ x. (x.0.now, x.1.now)) result (name_at tokens.now) }
@@ -54,8 +54,8 @@ pub(crate) fn name(tokens: &[Token]) -> Option<(&Text, &[Token])>
     }
 }
 
-/// The fault that the first of these tokens does not continue a query, or that the end does not: `Unexpected` with
-/// their number.
+/// The fault that the first of these tokens does not continue a query, or that the end does not:
+/// `Unexpected` with their number.
 ///
 /// Example: of the tokens of `FROM lines` it answers `Unexpected(2)`, and of none `Unexpected(0)`.
 pub(crate) fn unexpected_fault(tokens: &[Token]) -> GrammarFault
@@ -66,8 +66,8 @@ pub(crate) fn unexpected_fault(tokens: &[Token]) -> GrammarFault
 
 /// What stands behind a reserved word that has to stand in front.
 ///
-/// Example: of the tokens of `BY shop` and `Word::By` it answers those of `shop`; with `Word::Sets` it answers
-/// `Unexpected(2)`.
+/// Example: of the tokens of `BY shop` and `Word::By` it answers those of `shop`; with `Word::Sets`
+/// it answers `Unexpected(2)`.
 ///
 /// # Errors
 ///
@@ -84,8 +84,8 @@ pub(crate) fn expect_word(tokens: &[Token], word: Word) -> Result<&[Token], Gram
 
 /// What stands behind a sign that has to stand in front.
 ///
-/// Example: of the tokens of `(shop)` and `Sign::Open` it answers those of `shop)`; with `Sign::Comma` it answers
-/// `Unexpected(3)`.
+/// Example: of the tokens of `(shop)` and `Sign::Open` it answers those of `shop)`; with
+/// `Sign::Comma` it answers `Unexpected(3)`.
 ///
 /// # Errors
 ///
@@ -102,8 +102,8 @@ pub(crate) fn expect_sign(tokens: &[Token], sign: Sign) -> Result<&[Token], Gram
 
 /// A name that has to stand in front, and what stands behind it.
 ///
-/// Example: of the tokens of `lines WHERE member` it answers `lines` and the tokens of `WHERE member`; of those of
-/// `WHERE member` it answers `Unexpected(2)`.
+/// Example: of the tokens of `lines WHERE member` it answers `lines` and the tokens of
+/// `WHERE member`; of those of `WHERE member` it answers `Unexpected(2)`.
 ///
 /// # Errors
 ///

@@ -61,13 +61,13 @@ fn count(tokens: &[Token]) -> Result<(Aggregate, &[Token]), GrammarFault>
 /// A set function in front, apart from its FILTER, and what stands behind it, ISO/IEC 9075-2
 /// `<set function specification>`.
 ///
-/// Example: of the tokens of `COUNT(DISTINCT shop) AS n` it answers `CountDistinct` of `shop`, and the tokens of
-/// `AS n`.
+/// Example: of the tokens of `COUNT(DISTINCT shop) AS n` it answers `CountDistinct` of `shop`, and
+/// the tokens of `AS n`.
 ///
 /// # Errors
 ///
-/// `Unexpected` at the first token that continues no set function; `OutOfMemory` where there is no memory for the
-/// name.
+/// `Unexpected` at the first token that continues no set function; `OutOfMemory` where there is no
+/// memory for the name.
 #[tactic(auto, unfolding(crate::specs::Inside::LeafSteps::aggregate_at))]
 pub(crate) fn aggregate(tokens: &[Token]) -> Result<(Aggregate, &[Token]), GrammarFault>
     ensures exact { Gives (λ x. (x.0, x.1.now)) result (aggregate_at tokens.now) }

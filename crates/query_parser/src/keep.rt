@@ -4,10 +4,11 @@ ghost use Rattle.std.specs.Prelude.{◌≡◌, Err, MatchResult, Ok};
 
 use crate::fault::GrammarFault;
 
-/// Keeps what was read beside what was found behind it; where nothing was found, what was read is dropped.
+/// Keeps what was read beside what was found behind it; where nothing was found, what was read is
+/// dropped.
 ///
-/// Example: `keep(first, Ok(low))` answers `Ok((first, low))`; `keep(first, Err(fault))` drops `first` and answers
-/// `Err(fault)`.
+/// Example: `keep(first, Ok(low))` answers `Ok((first, low))`; `keep(first, Err(fault))` drops
+/// `first` and answers `Err(fault)`.
 ///
 /// # Errors
 ///

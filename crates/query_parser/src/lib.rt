@@ -1,8 +1,8 @@
 //! The parser of queries: it reads the tree that tokens derive.
 //!
-//! A reader answers what stands in front of tokens, and the tokens behind it. There are readers of single tokens and of
-//! the leaves of the grammar, which hold no expression and no predicate; of expressions and predicates, which hold one
-//! another; and of the clauses of whole queries.
+//! A reader answers what stands in front of tokens, and the tokens behind it. There are readers of
+//! single tokens and of the leaves of the grammar, which hold no expression and no predicate; of
+//! expressions and predicates, which hold one another; and of the clauses of whole queries.
 #![tactic(auto)]
 
 mod arguments;

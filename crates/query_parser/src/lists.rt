@@ -14,8 +14,8 @@ use std::alloc::Global;
 
 /// What stands in a list, with commas between its parts, and how a part is read.
 ///
-/// Example: the parts of `Names` are names. Of the tokens of `shop, cents` `begins` is true, and `read` answers
-/// `shop` and the tokens of `, cents`.
+/// Example: the parts of `Names` are names. Of the tokens of `shop, cents` `begins` is true, and
+/// `read` answers `shop` and the tokens of `, cents`.
 pub(crate) trait Listed {
     /// A part, as the tree holds it.
     type Part: Drop;
@@ -28,8 +28,8 @@ pub(crate) trait Listed {
 
     ghost front: { List Token → Bool };
 
-    /// Whether a part begins in front of these tokens. Where a list has as many parts as it may have, this decides
-    /// which fault another one is.
+    /// Whether a part begins in front of these tokens. Where a list has as many parts as it may
+    /// have, this decides which fault another one is.
     fn begins(tokens: &[Token]) -> bool
         ensures { result ≡ front tokens.now };
 
@@ -37,8 +37,8 @@ pub(crate) trait Listed {
     ///
     /// # Errors
     ///
-    /// `Unexpected` or `OverLimit` where no part within the limits stands in front; `OutOfMemory` where there is no
-    /// memory for it.
+    /// `Unexpected` or `OverLimit` where no part within the limits stands in front; `OutOfMemory`
+    /// where there is no memory for it.
     fn read(alloc: Global, tokens: &[Token]) -> Result<(Self::Part, &[Token]), GrammarFault>
         ensures exact { Gives (λ x. (form x.0, x.1.now)) result (reader tokens.now) }
         ensures shorter { IfOk result (λ x. length x.1.now < length tokens.now) };
@@ -54,16 +54,18 @@ fn excess<L: Listed>(tokens: &[Token]) -> GrammarFault
     unexpected_fault(tokens)
 }
 
-/// The first part of a list, which is read already, and those behind it, each behind its comma, with at most so many
-/// others; and what stands behind the list.
+/// The first part of a list, which is read already, and those behind it, each behind its comma,
+/// with at most so many others; and what stands behind the list.
 ///
-/// Example: of the first name `shop`, the tokens of `, cents FROM lines` and at most 1 other, `more_parts::<Names>`
-/// answers `shop` and `cents`, and the tokens of `FROM lines`; of those of `, cents, day` it answers `OverLimit`.
+/// Example: of the first name `shop`, the tokens of `, cents FROM lines` and at most 1 other,
+/// `more_parts::<Names>` answers `shop` and `cents`, and the tokens of `FROM lines`; of those of
+/// `, cents, day` it answers `OverLimit`.
 ///
 /// # Errors
 ///
-/// `OverLimit` where a part too many begins behind a comma, and `Unexpected` where anything else stands there; before
-/// that each fault of a part, as `read` answers it; `OutOfMemory` where there is no memory for the list.
+/// `OverLimit` where a part too many begins behind a comma, and `Unexpected` where anything else
+/// stands there; before that each fault of a part, as `read` answers it; `OutOfMemory` where there
+/// is no memory for the list.
 pub(crate) fn more_parts<L: Listed>(
     alloc: Global,
     first: L::Part,

@@ -16,10 +16,11 @@ use std::alloc::{AllocError, Global};
 /// The most literals of an IN list.
 const MAX_LITERALS: usize = 64;
 
-/// A literal in front, and what stands behind it, ISO/IEC 9075-2 `<literal>`; `None` where another token or none
-/// stands there. NULL and UNKNOWN are none.
+/// A literal in front, and what stands behind it, ISO/IEC 9075-2 `<literal>`; `None` where another
+/// token or none stands there. NULL and UNKNOWN are none.
 ///
-/// Example: of the tokens of `TRUE AND member` it answers `Literal::Truth(true)` and the tokens of `AND member`.
+/// Example: of the tokens of `TRUE AND member` it answers `Literal::Truth(true)` and the tokens of
+/// `AND member`.
 ///
 /// # Errors
 ///
@@ -42,8 +43,8 @@ pub(crate) fn literal(tokens: &[Token]) -> Result<Option<(Literal, &[Token])>, A
 
 /// Literals, as a kind of list.
 ///
-/// Example: `Literals::begins` is true of the tokens of `'x', 'y'`, and false of those of `x, 'y'`, in front of which
-/// a name stands.
+/// Example: `Literals::begins` is true of the tokens of `'x', 'y'`, and false of those of `x, 'y'`,
+/// in front of which a name stands.
 pub(crate) struct Literals;
 
 impl Listed for Literals {
@@ -80,16 +81,16 @@ impl Listed for Literals {
     }
 }
 
-/// The literals in brackets behind IN, 1 to 64 of them, and what stands behind the brackets, ISO/IEC 9075-2
-/// `<in predicate value>`.
+/// The literals in brackets behind IN, 1 to 64 of them, and what stands behind the brackets,
+/// ISO/IEC 9075-2 `<in predicate value>`.
 ///
-/// Example: of the tokens of `(1, 2) AND member` it answers the literals 1 and 2, and the tokens of `AND member`; of
-/// those of `()` it answers `Unexpected(1)`.
+/// Example: of the tokens of `(1, 2) AND member` it answers the literals 1 and 2, and the tokens of
+/// `AND member`; of those of `()` it answers `Unexpected(1)`.
 ///
 /// # Errors
 ///
-/// `OverLimit` for a 65th literal; `Unexpected` at the first token that continues no such list; `OutOfMemory` where
-/// there is no memory for the literals.
+/// `OverLimit` for a 65th literal; `Unexpected` at the first token that continues no such list;
+/// `OutOfMemory` where there is no memory for the literals.
 #[tactic(auto, unfolding(crate::specs::Inside::LeafSteps::literals_at))]
 pub(crate) fn in_list(
     alloc: Global,

@@ -10,10 +10,11 @@ use crate::fronts::{after_word, unexpected_fault};
 use query_lexer::{Sign, Token, Word};
 use values::{Op, Truth};
 
-/// An operator of a comparison in front, and what stands behind it, ISO/IEC 9075-2 `<comp op>`; `None` where another
-/// token or none stands there.
+/// An operator of a comparison in front, and what stands behind it, ISO/IEC 9075-2 `<comp op>`;
+/// `None` where another token or none stands there.
 ///
-/// Example: of the tokens of `<= 5` it answers `Op::Le` and the tokens of `5`; of those of `IN (5)`, `None`.
+/// Example: of the tokens of `<= 5` it answers `Op::Le` and the tokens of `5`; of those of
+/// `IN (5)`, `None`.
 #[tactic(auto, unfolding(crate::specs::Inside::LeafSteps::op_at))]
 pub(crate) fn operator(tokens: &[Token]) -> Option<(Op, &[Token])>
     ensures exact { Tells (λ x. (x.0, x.1.now)) result (op_at tokens.now) }
@@ -30,10 +31,11 @@ pub(crate) fn operator(tokens: &[Token]) -> Option<(Op, &[Token])>
     }
 }
 
-/// A truth value that has to stand in front, and what stands behind it, ISO/IEC 9075-2 `<truth value>`.
+/// A truth value that has to stand in front, and what stands behind it, ISO/IEC 9075-2
+/// `<truth value>`.
 ///
-/// Example: of the tokens of `UNKNOWN OR member` it answers `Truth::Unknown` and the tokens of `OR member`; of those
-/// of `NULL` it answers `Unexpected(1)`.
+/// Example: of the tokens of `UNKNOWN OR member` it answers `Truth::Unknown` and the tokens of
+/// `OR member`; of those of `NULL` it answers `Unexpected(1)`.
 ///
 /// # Errors
 ///
@@ -53,8 +55,8 @@ pub(crate) fn truth_value(tokens: &[Token]) -> Result<(Truth, &[Token]), Grammar
 
 /// Whether NOT stands in front, and what stands behind it; all tokens where it does not.
 ///
-/// Example: of the tokens of `NOT NULL` it answers `true` and the tokens of `NULL`; of those of `NULL`, `false` and
-/// these.
+/// Example: of the tokens of `NOT NULL` it answers `true` and the tokens of `NULL`; of those of
+/// `NULL`, `false` and these.
 #[tactic(auto, unfolding(crate::specs::Inside::LeafSteps::mark_at))]
 pub(crate) fn mark(tokens: &[Token]) -> (bool, &[Token])
     ensures exact { mark_at tokens.now ≡ (result.0, result.1.now) }

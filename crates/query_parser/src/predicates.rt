@@ -111,8 +111,9 @@ fn set_function(
 ///
 /// # Errors
 ///
-/// `Unexpected` at the first token that continues no expression; `OverLimit` for a level too many, a
-/// ninth name of GROUPING or a 65th literal behind IN; `OutOfMemory` where there is no memory for it.
+/// `Unexpected` at the first token that continues no expression; `OverLimit` for a level too many,
+/// a ninth name of GROUPING or a 65th literal behind IN; `OutOfMemory` where there is no memory for
+/// it.
 #[cycle(predicate)]
 #[tactic(auto, unfolding(crate::specs::Inside::ExpressionSteps::expression_at))]
 pub(crate) fn expression(
@@ -349,14 +350,15 @@ fn more_conjunctions(
 /// A predicate in front with fewer than so many levels of brackets, and what stands behind it,
 /// ISO/IEC 9075-2 `<search condition>`.
 ///
-/// Example: of the tokens of `a AND b OR c GROUP BY d` and 1 it answers the OR of `a AND b` and `c`,
-/// and the tokens of `GROUP BY d`; of those of `(a)` it answers `OverLimit` with 1, and the bare name
-/// `a` with 2.
+/// Example: of the tokens of `a AND b OR c GROUP BY d` and 1 it answers the OR of `a AND b` and
+/// `c`, and the tokens of `GROUP BY d`; of those of `(a)` it answers `OverLimit` with 1, and the
+/// bare name `a` with 2.
 ///
 /// # Errors
 ///
 /// `Unexpected` at the first token that continues no predicate; `OverLimit` for a level too many, a
-/// ninth name of GROUPING or a 65th literal behind IN; `OutOfMemory` where there is no memory for it.
+/// ninth name of GROUPING or a 65th literal behind IN; `OutOfMemory` where there is no memory for
+/// it.
 #[cycle(predicate)]
 #[tactic(auto, unfolding(crate::specs::Inside::PredicateSteps::predicate_at, crate::specs::Inside::PredicateSteps::disjunction_at))]
 pub(crate) fn predicate(

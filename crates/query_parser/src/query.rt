@@ -134,14 +134,14 @@ fn whole(alloc: Global, tokens: &[Token]) -> Result<Box<Tree>, GrammarFault>
 /// The query that all of the tokens derive, ISO/IEC 9075-2 `<query specification>` with its
 /// `<order by clause>`, in the profile of `docs/LANGUAGE.md`.
 ///
-/// Example: of the tokens of `SELECT COUNT(*) FROM lines` it answers a tree of one item; of those of
-/// `SELECT COUNT(*) FROM lines LIMIT 3` it answers `Unexpected(2)`.
+/// Example: of the tokens of `SELECT COUNT(*) FROM lines` it answers a tree of one item; of those
+/// of `SELECT COUNT(*) FROM lines LIMIT 3` it answers `Unexpected(2)`.
 ///
 /// # Errors
 ///
-/// `Unexpected` with the number of the tokens that are left where the first of them does not continue
-/// a query, 0 where the end does not; `OverLimit` where some tokens in front begin a query that does
-/// not keep the limits; `OutOfMemory`, which says nothing of the tokens.
+/// `Unexpected` with the number of the tokens that are left where the first of them does not
+/// continue a query, 0 where the end does not; `OverLimit` where some tokens in front begin a query
+/// that does not keep the limits; `OutOfMemory`, which says nothing of the tokens.
 pub fn read_query(alloc: Global, tokens: &[Token]) -> Result<Box<Tree>, GrammarFault>
     // What is read is derived.
     ensures derived { IfOk result (λ tree.

@@ -1,5 +1,5 @@
--- Codes of queries and plans, by which these are values of contracts. No contract's meaning rests on
--- which code a form has, only on each form having one of its own.
+-- Codes of queries and plans, by which these are values of contracts. No contract's meaning rests
+-- on which code a form has, only on each form having one of its own.
 use base.Stored.{Gv, gnil, gnum, gcons}
 use Rattle.std.proofs.Common.{◌≡◌, ℕ, zero, suc, Bool, false, Option, List, ◌∷◌, refl, ap, sym, subst, []}
 use Rattle.std.specs.Coded.{Coded, code_by, coded×, coded_ℕ, coded_bool, coded_list, coded_option}

@@ -29,12 +29,12 @@ use values::{Column, Schema};
 ///
 /// # Errors
 ///
-/// The first fault, in the order WHERE, GROUP BY, SELECT, HAVING, ORDER BY, each from left to right:
-/// a name that is no column (`UnknownColumn`), or no grouping column where it has to be one
+/// The first fault, in the order WHERE, GROUP BY, SELECT, HAVING, ORDER BY, each from left to
+/// right: a name that is no column (`UnknownColumn`), or no grouping column where it has to be one
 /// (`NotGrouped`); types that do not agree (`TypesDisagree`); a function where it may not stand
 /// (`FunctionNotAllowed`); more than 256 expanded grouping sets, or, behind all else, more than 64
-/// different set functions (`OverLimit`); two items with one header (`RepeatedHeader`). `OutOfMemory`
-/// says nothing of the query.
+/// different set functions (`OverLimit`); two items with one header (`RepeatedHeader`).
+/// `OutOfMemory` says nothing of the query.
 pub fn check(alloc: Global, query: Query, schema: Schema) -> Result<Plan, QueryFault>
     ensures query { IfOk result (λ plan. plan.query ≡ query) }
     ensures schema { IfOk result (λ plan. plan.fields ≡ schema) }
@@ -52,8 +52,8 @@ pub fn check(alloc: Global, query: Query, schema: Schema) -> Result<Plan, QueryF
     }
 }
 
-/// What the names of a typed query stand for, the condition of its WHERE, and those of its different
-/// filters.
+/// What the names of a typed query stand for, the condition of its WHERE, and those of its
+/// different filters.
 fn resolve(
     alloc: Global,
     tree: &Tree,

@@ -10,11 +10,11 @@ use crate::plan::Plan;
 use values::{Record, Truth};
 
 /// The truth value of the predicate of WHERE for a record (ISO/IEC 9075-2, `<search condition>`). A
-/// record is kept exactly where it is True; it is True of each record where WHERE is not written. It
-/// takes no memory. It asks that the record fits the schema of the plan.
+/// record is kept exactly where it is True; it is True of each record where WHERE is not written.
+/// It takes no memory. It asks that the record fits the schema of the plan.
 ///
-/// Example: under the columns `q:int` `WHERE q > 2` is True for the record of the line `{"q":5}`, and
-/// Unknown for that of `{}`.
+/// Example: under the columns `q:int` `WHERE q > 2` is True for the record of the line `{"q":5}`,
+/// and Unknown for that of `{}`.
 pub fn holds(plan: &Plan, record: &Record) -> Truth
     requires { Fits plan.now.fields «record».now }
     ensures { result ≡ where_truth plan.now.fields plan.now.query.where_condition «record».now }
@@ -22,14 +22,14 @@ pub fn holds(plan: &Plan, record: &Record) -> Truth
     plan.where_truth(record.values())
 }
 
-/// The truth value of the FILTER of a set function for a record (ISO/IEC 9075-2, `<filter clause>`).
-/// The function is named by its place among the different ones, from 0. It takes a record of a group
-/// exactly where this is True; it is True of each record where the function has no FILTER. No memory
-/// is taken. It asks that the record fits the schema of the plan, and that the place is below
-/// `Plan::functions`.
+/// The truth value of the FILTER of a set function for a record (ISO/IEC 9075-2,
+/// `<filter clause>`). The function is named by its place among the different ones, from 0. It
+/// takes a record of a group exactly where this is True; it is True of each record where the
+/// function has no FILTER. No memory is taken. It asks that the record fits the schema of the plan,
+/// and that the place is below `Plan::functions`.
 ///
-/// Example: of `SELECT COUNT(*), COUNT(*) FILTER (WHERE q > 2) FROM lines` and the record of the line
-/// `{"q":1}` it is True for the function 0, and False for the function 1.
+/// Example: of `SELECT COUNT(*), COUNT(*) FILTER (WHERE q > 2) FROM lines` and the record of the
+/// line `{"q":1}` it is True for the function 0, and False for the function 1.
 pub fn filter_holds(plan: &Plan, f: usize, record: &Record) -> Truth
     requires place { f < length (functions_of plan.now.fields plan.now.query) }
     requires fits { Fits plan.now.fields «record».now }

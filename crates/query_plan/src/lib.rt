@@ -1,5 +1,5 @@
-//! A query that some text derives, and its plan under a schema: checking it, what it holds of a record,
-//! its headers and the texts of its grouping sets.
+//! A query that some text derives, and its plan under a schema: checking it, what it holds of a
+//! record, its headers and the texts of its grouping sets.
 #![tactic(auto)]
 
 mod check;

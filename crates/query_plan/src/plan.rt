@@ -73,8 +73,8 @@ impl Plan {
     ghost use Rattle.semantics.specs.Conditions.{passes, record_value, where_truth, truth};
     ghost use Rattle.query_eval.specs.Meaning.{condition_truth, is_safe};
 
-    /// The plan of a query that is typed under a schema, of what it is resolved to there, and of the
-    /// conditions of its WHERE and of its different filters.
+    /// The plan of a query that is typed under a schema, of what it is resolved to there, and of
+    /// the conditions of its WHERE and of its different filters.
     pub(crate) fn new(
         query: Query,
         schema: Schema,
@@ -118,8 +118,8 @@ impl Plan {
     /// columns as an earlier one. Without GROUP BY it is the one empty set. ISO/IEC 9075-2
     /// `<group by clause>`.
     ///
-    /// Example: under the columns `d:text,r:text` `GROUP BY CUBE (d, r)` has four: that of the places
-    /// 0 and 1, that of 0, that of 1, and the empty one.
+    /// Example: under the columns `d:text,r:text` `GROUP BY CUBE (d, r)` has four: that of the
+    /// places 0 and 1, that of 0, that of 1, and the empty one.
     pub fn sets(&self) -> &[Vec<usize>]
         ensures sets { contents result.now ≡ sets_of self.now.fields self.now.query }
     {
@@ -136,8 +136,8 @@ impl Plan {
         self.resolved.grouping()
     }
 
-    /// The number of the different set functions, 0 to 64, of which each is named by its place, from
-    /// 0, in the order in which they first stand in SELECT, HAVING and ORDER BY.
+    /// The number of the different set functions, 0 to 64, of which each is named by its place,
+    /// from 0, in the order in which they first stand in SELECT, HAVING and ORDER BY.
     ///
     /// Example: it is 2 for `SELECT COUNT(*), SUM(q) FROM lines HAVING COUNT(*) > 1`.
     pub fn functions(&self) -> usize
@@ -150,8 +150,8 @@ impl Plan {
     /// ORDER BY, each with the index of its FILTER among the different filters, ISO/IEC 9075-2
     /// `<aggregate function>`.
     ///
-    /// Example: under the columns `q:int` that of `SELECT SUM(q) FILTER (WHERE q > 2) FROM lines` is
-    /// the function `Sum(0)` with the filter `Some(0)`.
+    /// Example: under the columns `q:int` that of `SELECT SUM(q) FILTER (WHERE q > 2) FROM lines`
+    /// is the function `Sum(0)` with the filter `Some(0)`.
     pub fn set_functions(&self) -> &[FilteredFunction]
         ensures functions { result.now ≡ indexed_functions self.now.fields self.now.query }
     {
@@ -162,9 +162,8 @@ impl Plan {
     /// stand; what the marks were is forgotten, and their memory is used again. It asks that the
     /// record fits the schema.
     ///
-    /// Example: of
-    /// `SELECT COUNT(*) FILTER (WHERE q > 2), COUNT(*) FILTER (WHERE NOT q > 2) FROM lines` the marks
-    /// are `true` and `false` where q is 5, and both are `false` where q is NULL.
+    /// Example: of `SELECT COUNT(*) FILTER (WHERE q > 2), COUNT(*) FILTER (WHERE NOT q > 2) FROM
+    /// lines` the marks are `true` and `false` where q is 5, and both are `false` where q is NULL.
     ///
     /// # Errors
     ///
@@ -191,8 +190,8 @@ impl Plan {
         self.filters.as_slice()
     }
 
-    /// The truth value of the FILTER of the set function at a place, for the values of a record that
-    /// fits the schema.
+    /// The truth value of the FILTER of the set function at a place, for the values of a record
+    /// that fits the schema.
     pub(crate) fn filter_truth(&self, place: usize, values: &[Value]) -> Truth
         requires place { place < length (functions_of self.now.fields self.now.query) }
         requires fits { Fits self.now.fields (data_of values.now) }

@@ -30,8 +30,8 @@ pub fn header(alloc: Global, plan: &Plan, item: usize) -> Result<String, AllocEr
     query_printer::header(alloc, &items[item])
 }
 
-/// The text `(c1, c2)` of a grouping set, counted from 0 among those of the plan: its columns in the
-/// order in which GROUP BY first names them. It asks that there is such a set.
+/// The text `(c1, c2)` of a grouping set, counted from 0 among those of the plan: its columns in
+/// the order in which GROUP BY first names them. It asks that there is such a set.
 ///
 /// Example: of `GROUP BY CUBE (d, r)` the texts of the sets are `(d, r)`, `(d)`, `(r)` and `()`.
 ///
@@ -62,8 +62,8 @@ fn predicate_texts(alloc: Global, predicates: &[&Predicate]) -> Result<Vec<Strin
 /// The canonical texts of the different filters, in the order in which they first stand in SELECT,
 /// HAVING and ORDER BY.
 ///
-/// Example: of `SELECT COUNT(*), COUNT(*) FILTER (where (q > 2)) FROM lines` it answers the one text
-/// `q > 2`.
+/// Example: of `SELECT COUNT(*), COUNT(*) FILTER (where (q > 2)) FROM lines` it answers the one
+/// text `q > 2`.
 ///
 /// # Errors
 ///

@@ -41,8 +41,8 @@ impl Drop for Query {
 impl Query {
     /// The query of a tree. It asks that some text derives the tree within the limits.
     ///
-    /// Example: of the tree of one item `COUNT(*)` and no other clause it makes the query of the text
-    /// `SELECT COUNT(*) FROM lines`.
+    /// Example: of the tree of one item `COUNT(*)` and no other clause it makes the query of the
+    /// text `SELECT COUNT(*) FROM lines`.
     pub fn new(tree: Box<Tree>) -> Query
         requires { ∥ ((text : List ℕ) × Derives text (tree_form tree.value)) ∥₁ }
         ensures { result ≡ tree_form tree.value }

@@ -13,7 +13,8 @@ use query_ast::{Expression, Operand, Predicate, SetFunction};
 use query_lexer::push_name;
 use std::alloc::{AllocError, Global};
 
-/// The precedence of a predicate: that of OR is the lowest, then AND, NOT, a truth test, and an atom the highest.
+/// The precedence of a predicate: that of OR is the lowest, then AND, NOT, a truth test, and an
+/// atom the highest.
 fn precedence(predicate: &Predicate) -> u32
     ensures { result ≡ precedence (predicate_form predicate.now) }
 {

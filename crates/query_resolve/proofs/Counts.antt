@@ -65,7 +65,8 @@ capped_left a b m =
     let twice : min (min a m) m ≡ min a m = omega arith in
     sym (ap (λ (n : ℕ). min (n * min b m) m) (sym twice) ∙ capped_product (min a m) b m) ∙ capped_product a b m
 
--- A turn of the loop: the sets of an element are counted, and those of the elements that are left are not.
+-- A turn of the loop: the sets of an element are counted, and those of the elements that are left
+-- are not.
 pub count_turn : (firsts seconds : List (List (List ℕ))) (old found new most : ℕ) → found ≡ min (length firsts) most → new ≡ min (old * found) most → min (new * length seconds) most ≡ min (old * length (cross_product firsts seconds)) most
 count_turn firsts seconds old found new most counted told =
     ap (λ (n : ℕ). min (n * length seconds) most) told

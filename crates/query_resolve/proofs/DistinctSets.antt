@@ -103,7 +103,8 @@ distinct_agrees same other f agree xs =
     ∙ (λ i. map f (distinct (λ a b. agree a b i) xs))
     ∙ sym (distinct_of_map other f xs)
 
--- Of sets in the order of the grouping columns the lists without repeats are the sets without repeats.
+-- Of sets in the order of the grouping columns the lists without repeats are the sets without
+-- repeats.
 sets_without_repeats : {X : Type 0} (grouping : List ℕ) (places : X → List ℕ) (xs : List X)
     → distinct bytes_eq (map (λ x. ordered_set grouping (places x)) xs) ≡ distinct same_columns (map (λ x. ordered_set grouping (places x)) xs)
 sets_without_repeats grouping places xs = distinct_agrees bytes_eq same_columns (λ x. ordered_set grouping (places x)) (λ a b. equal_ordered grouping (places a) (places b)) xs

@@ -133,13 +133,15 @@ same_planned-Decides f g =
 pub planned_are_same : (f g : PlannedFunction) → same_planned f g ≡ true → f ≡ g
 planned_are_same f g h = (same_planned-Decides f g).0 h
 
--- A test that says whether two set functions are equal, apart from their filters, is the one that is defined.
+-- A test that says whether two set functions are equal, apart from their filters, is the one that
+-- is defined.
 pub same_functions : (f g : ColumnFunction) (b : Bool) → Decides b (f ≡ g) → b ≡ column_function.eq-value.it f g
 same_functions f g b d = same_from_decides _ _ d (column_functions f g)
 
 -- ---- trees
 
--- Whether two trees of each kind are the same: where predicates are that have nothing else to differ in.
+-- Whether two trees of each kind are the same: where predicates are that have nothing else to
+-- differ in.
 abbrev same_trees : Rel the_members the_family the_depth Bool
 same_trees member-Predicate d e = same_predicate (predicate_form d) (predicate_form e)
 same_trees member-Operand d e = same_predicate (null_test (operand_form d) true) (null_test (operand_form e) true)

@@ -83,7 +83,8 @@ same_turned a b =
       ] refl
     ] refl
 
--- The value that a row of a group shows for a set function of the query is the value of that function over the members of the group.
+-- The value that a row of a group shows for a set function of the query is the value of that
+-- function over the members of the group.
 pub shown_value : (fields : List Field) (t : Query) (set : List ℕ) (key : Key) (rows : List Record) (f : SetFunction) → Contains (set_functions t) f
     → expression_value fields t set key (map (λ g. agg g rows) (aggregate_functions fields t)) (function f)
     ≡ option_map_or (λ p. agg (aggregate_function fields p) rows) (planned_function fields f) (plain null)

@@ -1,4 +1,5 @@
--- The set functions of a query as the code collects them, clause by clause. They are those that `set_functions` says.
+-- The set functions of a query as the code collects them, clause by clause. They are those that
+-- `set_functions` says.
 use Rattle.std.specs.Prelude.{List, ◌++◌, []}
 use Rattle.std.specs.List.{flat_map}
 use Rattle.std.specs.Option.{option_map_or}

@@ -12,11 +12,13 @@ use Rattle.query_resolve.specs.Functions.{indexed_functions}
 abbrev pub contents : List (Vec ℕ) → List (List ℕ)
 contents sets = map (λ s. s.items) sets
 
--- The sets that a GROUP BY list stands for, each as the places of its columns, in the order of these grouping columns.
+-- The sets that a GROUP BY list stands for, each as the places of its columns, in the order of
+-- these grouping columns.
 abbrev pub ordered_expansion : List Field → List ℕ → List GroupingElement → List (List ℕ)
 ordered_expansion fields grouping groups = map (λ names. ordered_set grouping (places_of fields names)) (expansion groups)
 
--- The grouping columns, the grouping sets, and the different set functions, by places of columns and indexes of filters.
+-- The grouping columns, the grouping sets, and the different set functions, by places of columns
+-- and indexes of filters.
 pub record Resolution : Type 0 where
   pub grouping : List ℕ
   pub sets : List (List ℕ)

@@ -6,9 +6,11 @@ ghost use Rattle.semantics.specs.Names.{column_kind, kind_at, place_of};
 
 use values::{Column, Kind};
 
-/// The place of the column of a name, from 0; `None` where no column has it. Names are compared exactly.
+/// The place of the column of a name, from 0; `None` where no column has it. Names are compared
+/// exactly.
 ///
-/// Example: among the columns of `shop:text,cents:int` `cents` has the place 1, and `Cents` has none.
+/// Example: among the columns of `shop:text,cents:int` `cents` has the place 1, and `Cents` has
+/// none.
 pub fn place_of(columns: &[Column], name: &str) -> Option<usize>
     ensures { result ≡ place_of (fields_of columns.now) name.now }
 {
@@ -26,7 +28,8 @@ fn kind_at(columns: &[Column], place: usize) -> Option<Kind>
 
 /// The type of the column of a name; `None` where no column has it. Names are compared exactly.
 ///
-/// Example: among the columns of `shop:text,cents:int` `cents` has the type `Int`, and `Cents` has none.
+/// Example: among the columns of `shop:text,cents:int` `cents` has the type `Int`, and `Cents` has
+/// none.
 pub fn column_kind(columns: &[Column], name: &str) -> Option<Kind>
     ensures { result ≡ column_kind (fields_of columns.now) name.now }
 {

@@ -8,9 +8,9 @@ ghost use Rattle.semantics.specs.Sets.{group_sets, ordered_set, same_columns};
 ghost use Rattle.query_resolve.specs.Resolution.{contents, ordered_expansion};
 
 use crate::grouping_columns::push_places;
-use crate::union::{cube, one_set, ordered_set, ordered_sets, rollup};
 use crate::product::Product;
 use crate::repeats::apply_distinct;
+use crate::union::{cube, one_set, ordered_set, ordered_sets, rollup};
 use query_ast::{GroupingElement, Text};
 use std::alloc::{AllocError, Global};
 use values::Column;
@@ -78,8 +78,8 @@ fn group_sets(
     }
 }
 
-/// The expanded list of grouping sets, each set in the order of the grouping columns: the cross product of the elements
-/// of GROUP BY, the leftmost varying slowest.
+/// The expanded list of grouping sets, each set in the order of the grouping columns: the cross
+/// product of the elements of GROUP BY, the leftmost varying slowest.
 fn expand(
     alloc: Global,
     columns: &[Column],
@@ -96,12 +96,13 @@ fn expand(
     product.sets_in_order(alloc, grouping)
 }
 
-/// The grouping sets as places of columns, from 0, each in the order of these grouping columns: the expanded list, and
-/// where they are to be distinct, that list without each set that has the same columns as an earlier one, ISO/IEC
-/// 9075-2 `<group by clause>`. A name that is no column has no place.
+/// The grouping sets as places of columns, from 0, each in the order of these grouping columns: the
+/// expanded list, and where they are to be distinct, that list without each set that has the same
+/// columns as an earlier one, ISO/IEC 9075-2 `<group by clause>`. A name that is no column has no
+/// place.
 ///
-/// Example: `GROUP BY ROLLUP (r), d` stands under the columns `d:text,r:text` and the grouping columns 1 and 0 for the
-/// sets of 1 and 0, and of 0.
+/// Example: `GROUP BY ROLLUP (r), d` stands under the columns `d:text,r:text` and the grouping
+/// columns 1 and 0 for the sets of 1 and 0, and of 0.
 ///
 /// # Errors
 ///

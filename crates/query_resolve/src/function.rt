@@ -8,11 +8,12 @@ use crate::columns::place_of;
 use semantics::{Aggregate, ColumnFunction};
 use values::Column;
 
-/// A set function of a plan, ISO/IEC 9075-2 `<aggregate function>`: with the index of its FILTER among the different
-/// filters of the query, from 0, where it has one.
+/// A set function of a plan, ISO/IEC 9075-2 `<aggregate function>`: with the index of its FILTER
+/// among the different filters of the query, from 0, where it has one.
 ///
-/// Example: of `SELECT COUNT(*), SUM(q) FILTER (WHERE b) FROM lines` under the columns `q:int,b:bool` the first has
-/// the function `CountRows` and the filter `None`, the second `Sum(0)` and `Some(0)`.
+/// Example: of `SELECT COUNT(*), SUM(q) FILTER (WHERE b) FROM lines` under the columns
+/// `q:int,b:bool` the first has the function `CountRows` and the filter `None`, the second `Sum(0)`
+/// and `Some(0)`.
 #[derive(Clone, Copy, Debug, PartialEq, Eq)]
 pub struct FilteredFunction {
     /// The function, with the place of its column.
@@ -21,11 +22,11 @@ pub struct FilteredFunction {
     pub filter: Option<usize>,
 }
 
-/// A set function with the place of its column, where the schema has that column; `None` where it has not. The type
-/// of the column is not asked.
+/// A set function with the place of its column, where the schema has that column; `None` where it
+/// has not. The type of the column is not asked.
 ///
-/// Example: under the columns `shop:text,cents:int` `MIN(cents)` is `Min(1)`, `MIN(day)` is `None`, and `COUNT(*)` is
-/// `CountRows`.
+/// Example: under the columns `shop:text,cents:int` `MIN(cents)` is `Min(1)`, `MIN(day)` is `None`,
+/// and `COUNT(*)` is `CountRows`.
 pub fn column_function(columns: &[Column], aggregate: &Aggregate) -> Option<ColumnFunction>
     ensures { result ≡ column_function (fields_of columns.now) aggregate.now }
 {

@@ -78,8 +78,8 @@ fn distinct_places(alloc: Global, places: &[usize]) -> Result<Vec<usize>, AllocE
     Ok(found)
 }
 
-/// The places of the grouping columns, from 0, in the order in which GROUP BY first names them, each once. A name that is
-/// no column has no place.
+/// The places of the grouping columns, from 0, in the order in which GROUP BY first names them,
+/// each once. A name that is no column has no place.
 ///
 /// Example: of `GROUP BY r, ROLLUP (d, r)` under the columns `d:text,r:text` they are 1 and 0.
 ///

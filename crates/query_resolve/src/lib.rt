@@ -1,6 +1,6 @@
-//! What the parts of a query are resolved to under a schema: names to the places of their columns, GROUP BY to grouping
-//! columns and grouping sets, and the set functions of its clauses to the different ones and their different filters.
-//! Whether a query is typed is not asked here.
+//! What the parts of a query are resolved to under a schema: names to the places of their columns,
+//! GROUP BY to grouping columns and grouping sets, and the set functions of its clauses to the
+//! different ones and their different filters. Whether a query is typed is not asked here.
 #![tactic(auto)]
 
 mod columns;
@@ -8,11 +8,11 @@ mod count;
 mod expansion;
 mod function;
 mod grouping_columns;
-mod union;
 mod laws;
 mod plan;
 mod product;
 mod repeats;
+mod union;
 
 pub use columns::{column_kind, place_of};
 pub use count::set_count;

@@ -19,9 +19,11 @@ use semantics::ColumnFunction;
 use std::alloc::{AllocError, Global};
 use values::Column;
 
-/// A set function of a query, with the place of its column, and the predicate of its FILTER where it has one.
+/// A set function of a query, with the place of its column, and the predicate of its FILTER where
+/// it has one.
 ///
-/// Example: under the columns `q:int,b:bool` `SUM(q) FILTER (WHERE b)` has the function `Sum(0)` and the filter `b`.
+/// Example: under the columns `q:int,b:bool` `SUM(q) FILTER (WHERE b)` has the function `Sum(0)`
+/// and the filter `b`.
 #[derive(Clone, Copy)]
 pub struct Planned<'a> {
     /// The function, with the place of its column, from 0.
@@ -217,7 +219,8 @@ fn all_functions<'a>(
     Ok(functions)
 }
 
-/// Whether two predicates are the same, part by part: by the structure of their trees, not by what they are worth.
+/// Whether two predicates are the same, part by part: by the structure of their trees, not by what
+/// they are worth.
 ///
 /// Example: `q = 1` and `(q = 1)` are the same, `q = 1` and `1 = q` are not.
 fn is_same_predicate(predicate: &Predicate, other: &Predicate) -> bool
@@ -272,13 +275,13 @@ fn distinct_functions<'a>(
     Ok(found)
 }
 
-/// The different set functions of a query, in the order in which they first stand in SELECT, HAVING and ORDER BY. Two
-/// are the same where the function, DISTINCT, the column and the FILTER are. One whose column is not in the schema is
-/// left out.
+/// The different set functions of a query, in the order in which they first stand in SELECT, HAVING
+/// and ORDER BY. Two are the same where the function, DISTINCT, the column and the FILTER are. One
+/// whose column is not in the schema is left out.
 ///
 /// Example: under the columns `q:int,b:bool`
-/// `SELECT COUNT(*), SUM(q) FROM lines ORDER BY COUNT(*), SUM(q) FILTER (WHERE b)` has three: `COUNT(*)`, `SUM(q)`,
-/// and `SUM(q)` with its FILTER.
+/// `SELECT COUNT(*), SUM(q) FROM lines ORDER BY COUNT(*), SUM(q) FILTER (WHERE
+/// b)` has three: `COUNT(*)`, `SUM(q)`, and `SUM(q)` with its FILTER.
 ///
 /// # Errors
 ///
@@ -352,12 +355,12 @@ fn different_filters<'a>(
     distinct_filters(alloc, &all_filters(alloc, functions)?)
 }
 
-/// The different filters of a query, in the order in which they first stand in SELECT, HAVING and ORDER BY. Two are
-/// the same where their trees are equal, apart from where they lie in memory.
+/// The different filters of a query, in the order in which they first stand in SELECT, HAVING and
+/// ORDER BY. Two are the same where their trees are equal, apart from where they lie in memory.
 ///
 /// Example: under the columns `q:int,b:bool` those of
-/// `SELECT COUNT(*) FILTER (WHERE b), COUNT(*) FILTER (WHERE q = 1), SUM(q) FILTER (WHERE (b)) FROM lines` are `b`
-/// and `q = 1`.
+/// `SELECT COUNT(*) FILTER (WHERE b), COUNT(*) FILTER (WHERE q = 1), SUM(q) FILTER (WHERE (b)) FROM
+/// lines` are `b` and `q = 1`.
 ///
 /// # Errors
 ///
@@ -413,12 +416,12 @@ fn index_functions(
     Ok(all)
 }
 
-/// The different set functions of a query, in the order in which they first stand in SELECT, HAVING and ORDER BY, each
-/// with the index of its FILTER among the different filters, from 0, where it has one. A function of a name that is no
-/// column is left out.
+/// The different set functions of a query, in the order in which they first stand in SELECT, HAVING
+/// and ORDER BY, each with the index of its FILTER among the different filters, from 0, where it
+/// has one. A function of a name that is no column is left out.
 ///
-/// Example: of `SELECT COUNT(*), SUM(q) FILTER (WHERE b) FROM lines` and `q:int,b:bool` the first has no filter, the
-/// second has the filter 0.
+/// Example: of `SELECT COUNT(*), SUM(q) FILTER (WHERE b) FROM lines` and `q:int,b:bool` the first
+/// has no filter, the second has the filter 0.
 ///
 /// # Errors
 ///
@@ -446,11 +449,11 @@ fn function_place(functions: &[Planned], function: &Planned) -> Option<usize>
         .position(|other| is_same_planned(function, other))
 }
 
-/// The place of a set function among others, from 0; `None` where it is not among them, or its column not in the
-/// schema. It takes no memory.
+/// The place of a set function among others, from 0; `None` where it is not among them, or its
+/// column not in the schema. It takes no memory.
 ///
-/// Example: among `COUNT(*)` and `SUM(q)` the function `SUM(q)` has the place 1, and `SUM(q) FILTER (WHERE b)` has
-/// none.
+/// Example: among `COUNT(*)` and `SUM(q)` the function `SUM(q)` has the place 1, and
+/// `SUM(q) FILTER (WHERE b)` has none.
 pub fn planned_place(
     columns: &[Column],
     functions: &[Planned],

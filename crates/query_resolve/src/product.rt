@@ -8,8 +8,9 @@ use crate::union::{cross_product, one_set, ordered_set, ordered_sets};
 use std::alloc::{AllocError, Global};
 use std::marker::Model;
 
-/// Sets that stand for a cross product: each of `sets` joined with the columns in `common`. An element of GROUP BY
-/// that is one set adds its columns to all of them, so it costs no more than to write these down once.
+/// Sets that stand for a cross product: each of `sets` joined with the columns in `common`. An
+/// element of GROUP BY that is one set adds its columns to all of them, so it costs no more than to
+/// write these down once.
 #[derive(Drop)]
 pub(crate) struct Product {
     sets: Vec<Vec<usize>>,
@@ -41,8 +42,8 @@ impl Product {
         })
     }
 
-    /// Crosses the product with more sets, the product varying slowest. In the order of any columns, the sets are then
-    /// those of the cross product.
+    /// Crosses the product with more sets, the product varying slowest. In the order of any
+    /// columns, the sets are then those of the cross product.
     pub(crate) fn cross(&mut self, alloc: Global, sets: &[Vec<usize>]) -> Result<(), AllocError>
         ensures { OnOk result ((grouping : List ℕ) → map (ordered_set grouping) self.new
             ≡ map (ordered_set grouping) (cross_product self.old (contents sets.now))) }

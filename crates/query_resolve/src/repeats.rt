@@ -22,7 +22,8 @@ fn copy_set(alloc: Global, set: &[usize]) -> Result<Vec<usize>, AllocError>
     set.to_vec(alloc)
 }
 
-/// The sets without repeats, each where it first stands. Sets whose columns stand in another order are different.
+/// The sets without repeats, each where it first stands. Sets whose columns stand in another order
+/// are different.
 fn without_repeats(alloc: Global, sets: &[Vec<usize>]) -> Result<Vec<Vec<usize>>, AllocError>
     ensures { IfOk result (λ v. contents v.items ≡ distinct bytes_eq (contents sets.now)) }
 {

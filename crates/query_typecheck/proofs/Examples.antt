@@ -1,4 +1,5 @@
--- The faults of a query, where they stand in it, its set functions and its filters, computed on examples.
+-- The faults of a query, where they stand in it, its set functions and its filters, computed on
+-- examples.
 use Rattle.std.proofs.Common.{◌≡◌, zero, suc, true, false, ℕ, List, [], ◌∷◌, Some, None, Contains, pos, refl, ap, inl, inr, arith, codes}
 use Rattle.std.specs.Prelude.{slice_get}
 use Rattle.std.specs.Str.{bytes_eq}
@@ -78,7 +79,8 @@ first_told : slice_get (query_faults fields (where_one (codes "d"))) 0 ≡ Some 
 unfolding query_faults
 first_told = refl
 
--- SELECT GROUPING(q, d) .. GROUP BY c: q is not grouped, and d is no column, and so is not grouped either
+-- SELECT GROUPING(q, d) .. GROUP BY c: q is not grouped, and d is no column, and so is not grouped
+-- either
 two_names : query_faults fields (selected (item (grouping (codes "q" ∷ codes "d" ∷ [])) ∷ [])) ≡ faults.NotGrouped (codes "q") ∷ faults.UnknownColumn (codes "d") ∷ faults.NotGrouped (codes "d") ∷ []
 unfolding query_faults
 two_names = refl
@@ -202,7 +204,8 @@ filter_of_any_column : query_fault fields (selected (item (counted (is_one (code
 unfolding tests_of
 filter_of_any_column = refl
 
--- SELECT COUNT(*), COUNT(*) FILTER (WHERE b), SUM(q) FILTER (WHERE b), COUNT(*) FILTER (WHERE q = 1), COUNT(*) FILTER (WHERE b)
+-- SELECT COUNT(*), COUNT(*) FILTER (WHERE b), SUM(q) FILTER (WHERE b), COUNT(*) FILTER (WHERE q =
+-- 1), COUNT(*) FILTER (WHERE b)
 abbrev filtered_query : Query
 filtered_query = selected (
     item (function (over_all aggregate.CountRows))

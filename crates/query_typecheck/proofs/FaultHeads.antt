@@ -118,7 +118,8 @@ argument_first fields (aggregate.Avg x) = only_argument fields (kind.Int ∷ [])
 
 -- ---- predicates
 
--- Tests of one, two, three and more operands, and then of their types, however they are taken together.
+-- Tests of one, two, three and more operands, and then of their types, however they are taken
+-- together.
 after_one : (a : Option QueryFault) → option_or (option_or a None) None ≡ a
 after_one None = refl
 after_one (Some x) = refl

@@ -21,7 +21,8 @@ name_at fields n place at =
 one_name : (fields : List Field) (n m : List ℕ) (place : ℕ) → place_of fields n ≡ Some place → place_of fields m ≡ Some place → bytes_eq n m ≡ true
 one_name fields n m place at also = (bytes_eq-Decides n m).1 (name_at fields n place at ∙ sym (name_at fields m place also))
 
--- What an option holds is at a place exactly where the name whose place it is, is the one that stands there.
+-- What an option holds is at a place exactly where the name whose place it is, is the one that
+-- stands there.
 one_place : (fields : List Field) (n m : List ℕ) (place : ℕ) (o : Option ℕ) (places : List ℕ) → place_of fields n ≡ Some place → place_of fields m ≡ o → list_any (λ g. g == place) (cons_option o places) ≡ (bytes_eq n m || list_any (λ g. g == place) places)
 one_place fields n m place None places at also =
     elim (bytes_eq n m) as (λ (t : Bool). bytes_eq n m ≡ t → list_any (λ g. g == place) places ≡ (t || list_any (λ g. g == place) places)) [

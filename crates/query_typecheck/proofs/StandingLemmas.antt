@@ -121,7 +121,8 @@ column_stands fields t n f asked h =
     let k = fails (is_some (place_of fields n)) (UnknownColumn n) f h in
     subst (IsViolation fields t) k.1 (asked, λ is. let wrong : true ≡ false = sym is ∙ k.0 in let clash : ⊥ = cc in clash)
 
--- A name that is to be a grouping column has no column, or one at a place that is none of a grouping column.
+-- A name that is to be a grouping column has no column, or one at a place that is none of a
+-- grouping column.
 grouped_cases : (grouped n : List ℕ) (o : Option ℕ) (f : QueryFault) → grouped_at_fault grouped n o ≡ Some f → ((o ≡ None) × (UnknownColumn n ≡ f)) ⊎ ((place : ℕ) × (o ≡ Some place) × (list_any (λ g. g == place) grouped ≡ false) × (NotGrouped n ≡ f))
 grouped_cases grouped n None f h = inl (refl, cc)
 grouped_cases grouped n (Some place) f h = let k = fails (list_any (λ g. g == place) grouped) (NotGrouped n) f h in inr (place, refl, k.0, k.1)
@@ -175,7 +176,8 @@ kind_fails fields kinds x f is h =
     let k = fails (list_any (same_kind has.0) kinds) TypesDisagree f (ap (kind_fault kinds) (sym has.1) ∙ h) in
     (has.0, has.1, λ among. let found = test_from_among kinds has.0 among in let not_found = k.0 in let clash : ⊥ = cc in clash, k.1)
 
--- A set function that does not take its column, where a name without a column stands, and a column of another type.
+-- A set function that does not take its column, where a name without a column stands, and a column
+-- of another type.
 argument_stands : (fields : List Field) (t : Query) (a : Aggregate) (f : QueryFault) → ((x : List ℕ) → Contains (argument_names a) x → column_fault fields x ≡ Some f → IsViolation fields t f) → (IsOfOtherKind fields a → TypesDisagree ≡ f → IsViolation fields t f) → aggregate_fault fields a ≡ Some f → IsViolation fields t f
 argument_stands fields t a f unknown other h =
     let found = first_at (argument_fault fields (takes a)) (argument_names a) f h in
@@ -192,7 +194,8 @@ aggregate_stands fields t c g f at h =
     (λ other same. subst (IsViolation fields t) same (inr (c, g, at, other)))
     h
 
--- A choice with a fault: the test holds and its first side has it, or the test fails and the fault is the other one.
+-- A choice with a fault: the test holds and its first side has it, or the test fails and the fault
+-- is the other one.
 chosen_cases : (t : Bool) (o : Option QueryFault) (x f : QueryFault) → cond t o (Some x) ≡ Some f → ((t ≡ true) × (o ≡ Some f)) ⊎ ((t ≡ false) × (x ≡ f))
 chosen_cases true o x f h = inl (refl, h)
 chosen_cases false o x f h = inr (refl, cc)
@@ -219,7 +222,8 @@ FiltersStand fields t f = (p : Predicate) → IsFilterIn t p → predicate_fault
 misplaced_stands : (fields : List Field) (t : Query) (c : Clause) (g : SetFunction) (f : QueryFault) → StandsIn t c (function g) → may_stand c (aggregate_of g) ≡ false → FunctionNotAllowed ≡ f → IsViolation fields t f
 misplaced_stands fields t c g f at may_not same = subst (IsViolation fields t) same (c, function g, at, may_not)
 
--- A set function that may not stand in its clause, does not take its column, or has a FILTER with a fault.
+-- A set function that may not stand in its clause, does not take its column, or has a FILTER with a
+-- fault.
 function_stands : (fields : List Field) (t : Query) (c : Clause) (g : SetFunction) (f : QueryFault) → (c ≢ clause.Where → FiltersStand fields t f) → StandsIn t c (function g) → function_fault fields c g ≡ Some f → IsViolation fields t f
 function_stands fields t c (over_all a) f deeper at h =
     elim (chosen_cases (may_stand c a) (aggregate_fault fields a) FunctionNotAllowed f h) [

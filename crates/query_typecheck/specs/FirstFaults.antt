@@ -1,4 +1,5 @@
--- The first fault of a query that is not typed, as the code finds it: the first of `query_faults` of Faults.
+-- The first fault of a query that is not typed, as the code finds it: the first of `query_faults`
+-- of Faults.
 use Rattle.std.specs.Prelude.{◌≡◌, ◌≢◌, Result, MatchResult, ℕ, ◌==◌, nat_lt, Bool, false, not, Option, Some, None, List, ◌∷◌, ◌++◌, map, length, take, is_some, if◌then◌else◌, All, []}
 use Rattle.std.specs.List.{enumerate_from, list_any}
 use Rattle.std.specs.Option.{option_map_or, option_or}
@@ -112,8 +113,8 @@ abbrev mutual
   expression_fault fields grouped c (grouping ns) = grouping_fault fields grouped c ns
   expression_fault fields grouped c (function f) = function_fault fields c f
 
-  -- A set function that may not stand is not looked into. Else its argument is tested, and then its FILTER, in which all
-  -- stands as in WHERE.
+  -- A set function that may not stand is not looked into. Else its argument is tested, and then its
+  -- FILTER, in which all stands as in WHERE.
   pub function_fault : List Field → Clause → SetFunction → Option QueryFault
   function_fault fields c (over_all a) = if may_stand c a then aggregate_fault fields a else Some FunctionNotAllowed
   function_fault fields c (over_filtered a p) =
@@ -124,7 +125,8 @@ abbrev mutual
   operand_fault fields grouped c (expression e) = expression_fault fields grouped c e
   operand_fault fields grouped c (literal a) = None
 
-  -- The first fault of a predicate in a clause. In an atom all operands are tested from the left, then their types.
+  -- The first fault of a predicate in a clause. In an atom all operands are tested from the left,
+  -- then their types.
   pub predicate_fault : List Field → List ℕ → Clause → Predicate → Option QueryFault
   predicate_fault fields grouped c (or_of ps) = parts_fault fields grouped c ps
   predicate_fault fields grouped c (and_of ps) = parts_fault fields grouped c ps
@@ -167,8 +169,9 @@ headers_fault headers = first_fault (λ p. header_fault (take p.0 headers) p.1) 
 abbrev pub limit_fault : ℕ → ℕ → Option QueryFault
 limit_fault most n = fault_unless (not (nat_lt most n)) OverLimit
 
--- The tests of a query under a schema, in their order: WHERE, the names in GROUP BY, the number of its expanded sets, the
--- items of SELECT, their headers, HAVING, the keys of ORDER BY, and the number of different set functions.
+-- The tests of a query under a schema, in their order: WHERE, the names in GROUP BY, the number of
+-- its expanded sets, the items of SELECT, their headers, HAVING, the keys of ORDER BY, and the
+-- number of different set functions.
 unfoldable pub tests_of : List Field → Query → List (Option QueryFault)
 tests_of fields t =
     clause_fault fields (grouping_places fields t) clause.Where t.where_condition

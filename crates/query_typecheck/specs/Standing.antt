@@ -1,4 +1,5 @@
--- Which faults stand in a query under a schema, wherever in it they stand (ISO/IEC 9075-2, <query specification>).
+-- Which faults stand in a query under a schema, wherever in it they stand (ISO/IEC 9075-2, <query
+-- specification>).
 use Rattle.std.specs.Prelude.{◌≡◌, ◌≢◌, ◌<◌, ⊤, ◌⊎◌, ℕ, false, Option, Some, List, ◌∷◌, ◌++◌, map, length, Contains, []}
 use Rattle.std.specs.Option.{option_map_or}
 use Rattle.semantics.specs.declared.kind.Kind.{Kind}
@@ -50,8 +51,9 @@ atoms_in t clause.Select = []
 atoms_in t clause.Having = option_map_or atoms t.having_condition []
 atoms_in t clause.OrderBy = []
 
--- An expression is written in a clause outside of each FILTER: in SELECT it is an item's, in ORDER BY a key's, where an
--- alias stands for its item, and in WHERE and HAVING it is an operand of an atom.
+-- An expression is written in a clause outside of each FILTER: in SELECT it is an item's, in ORDER
+-- BY a key's, where an alias stands for its item, and in WHERE and HAVING it is an operand of an
+-- atom.
 abbrev pub IsWrittenIn : Query → Clause → Expression → Type 0
 IsWrittenIn t clause.Select e = Contains (map (λ i. i.expression) t.items) e
 IsWrittenIn t clause.OrderBy e = Contains (map (λ k. key_expression t.items k.expression) t.keys) e
@@ -62,21 +64,22 @@ IsWrittenIn t clause.Having e = (p : Predicate) × Contains (atoms_in t clause.H
 abbrev pub IsFilterIn : Query → Predicate → Type 0
 IsFilterIn t p = (c : Clause) × (a : Aggregate) × IsWrittenIn t c (function (over_filtered a p))
 
--- An atom stands in a clause where it is one of the clause's predicate. In a FILTER all stands as in WHERE, in whichever
--- clause the set function is, so the atoms of each FILTER stand there too.
+-- An atom stands in a clause where it is one of the clause's predicate. In a FILTER all stands as
+-- in WHERE, in whichever clause the set function is, so the atoms of each FILTER stand there too.
 abbrev pub IsAtomIn : Query → Clause → Predicate → Type 0
 IsAtomIn t clause.Where p = Contains (atoms_in t clause.Where) p ⊎ ((q : Predicate) × IsFilterIn t q × Contains (atoms q) p)
 IsAtomIn t c p = Contains (atoms_in t c) p
 
--- An expression stands in a clause: in SELECT it is an item's, in ORDER BY a key's, where an alias stands for its item,
--- and in WHERE, a FILTER and HAVING it is an operand of an atom.
+-- An expression stands in a clause: in SELECT it is an item's, in ORDER BY a key's, where an alias
+-- stands for its item, and in WHERE, a FILTER and HAVING it is an operand of an atom.
 abbrev pub StandsIn : Query → Clause → Expression → Type 0
 StandsIn t clause.Select e = Contains (map (λ i. i.expression) t.items) e
 StandsIn t clause.OrderBy e = Contains (map (λ k. key_expression t.items k.expression) t.keys) e
 StandsIn t clause.Where e = (p : Predicate) × IsAtomIn t clause.Where p × Contains (operands p) (expression e)
 StandsIn t clause.Having e = (p : Predicate) × IsAtomIn t clause.Having p × Contains (operands p) (expression e)
 
--- The names in an expression outside of a set function: a name itself, or the arguments of GROUPING.
+-- The names in an expression outside of a set function: a name itself, or the arguments of
+-- GROUPING.
 abbrev pub outer_names : Expression → List (List ℕ)
 outer_names (name n) = n ∷ []
 outer_names (grouping ns) = ns
@@ -94,8 +97,8 @@ names (function f) = argument_names (aggregate_of f)
 abbrev pub AreOfTwoKinds : Option Kind → Option Kind → Type 0
 AreOfTwoKinds k l = (one : Kind) × (other : Kind) × (k ≡ Some one) × (l ≡ Some other) × (one ≢ other)
 
--- The types of an atom disagree: a name that stands alone is of another type than truth values, or two operands are of
--- two types.
+-- The types of an atom disagree: a name that stands alone is of another type than truth values, or
+-- two operands are of two types.
 abbrev pub Disagrees : List Field → Predicate → Type 0
 Disagrees fields (column n) = AreOfTwoKinds (column_kind fields n) (Some kind.Bool)
 Disagrees fields p = (x : Operand) × (y : Operand) × Contains (operands p) x × Contains (operands p) y × AreOfTwoKinds (operand_kind fields x) (operand_kind fields y)
@@ -104,7 +107,8 @@ Disagrees fields p = (x : Operand) × (y : Operand) × Contains (operands p) x �
 abbrev pub IsOfOtherKind : List Field → Aggregate → Type 0
 IsOfOtherKind fields a = (n : List ℕ) × (k : Kind) × Contains (argument_names a) n × (column_kind fields n ≡ Some k) × (Contains (takes a) k → ⊥)
 
--- A function stands where it may not: GROUPING in WHERE or a FILTER, a set function there, AVG outside of SELECT.
+-- A function stands where it may not: GROUPING in WHERE or a FILTER, a set function there, AVG
+-- outside of SELECT.
 abbrev pub IsMisplaced : Clause → Expression → Type 0
 IsMisplaced c (name n) = ⊥
 IsMisplaced c (grouping ns) = c ≡ clause.Where
@@ -116,15 +120,14 @@ StandsTwice h headers = (before : List (List ℕ)) × (behind : List (List ℕ))
 
 -- ---- the faults
 
--- A fault is a violation of a query under a schema:
--- an unknown column, where GROUP BY or an expression of a clause has the name, and no column of the schema;
--- a column that is not grouped, where its name stands in SELECT, HAVING or ORDER BY outside of a set function, and not
--- in GROUP BY;
--- types that disagree, where those of an atom do, or where a set function is taken of a column of another type;
--- a function that is not allowed, where one stands where it may not;
--- too much, where there are more than 256 grouping sets or more than 64 different set functions;
--- a repeated header, where two items have it.
--- A query that was read has no fault of its text. Want of memory says nothing.
+-- A fault is a violation of a query under a schema: an unknown column, where GROUP BY or an
+-- expression of a clause has the name, and no column of the schema; a column that is not grouped,
+-- where its name stands in SELECT, HAVING or ORDER BY outside of a set function, and not in GROUP
+-- BY; types that disagree, where those of an atom do, or where a set function is taken of a column
+-- of another type; a function that is not allowed, where one stands where it may not; too much,
+-- where there are more than 256 grouping sets or more than 64 different set functions; a repeated
+-- header, where two items have it. A query that was read has no fault of its text. Want of memory
+-- says nothing.
 abbrev pub IsViolation : List Field → Query → QueryFault → Type 0
 IsViolation fields t (faults.UnknownColumn n) = (Contains (grouping_names t) n ⊎ ((c : Clause) × (e : Expression) × StandsIn t c e × Contains (names e) n)) × (IsColumn fields n → ⊥)
 IsViolation fields t (faults.NotGrouped n) = (c : Clause) × (e : Expression) × StandsIn t c e × (c ≢ clause.Where) × Contains (outer_names e) n × IsColumn fields n × (Contains (grouping_names t) n → ⊥)

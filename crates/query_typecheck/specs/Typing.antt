@@ -48,7 +48,8 @@ argument_names (aggregate.Min x) = x ∷ []
 argument_names (aggregate.Max x) = x ∷ []
 argument_names (aggregate.Avg x) = x ∷ []
 
--- The types that a set function takes: COUNT each, SUM and AVG whole numbers, MIN and MAX whole numbers and texts.
+-- The types that a set function takes: COUNT each, SUM and AVG whole numbers, MIN and MAX whole
+-- numbers and texts.
 abbrev pub takes : Aggregate → List Kind
 takes aggregate.CountRows = kind.Int ∷ kind.Text ∷ kind.Bool ∷ []
 takes (aggregate.Count x) = kind.Int ∷ kind.Text ∷ kind.Bool ∷ []
@@ -97,8 +98,9 @@ abbrev mutual
   IsTypedExpression fields grouped c (grouping ns) = IsTypedGrouping fields grouped c ns
   IsTypedExpression fields grouped c (function f) = IsTypedFunction fields c f
 
-  -- A set function is typed where it may stand and takes its column. Its FILTER is typed as WHERE is, in whichever clause
-  -- the function stands: names are columns, and no set function and no GROUPING may stand there.
+  -- A set function is typed where it may stand and takes its column. Its FILTER is typed as WHERE
+  -- is, in whichever clause the function stands: names are columns, and no set function and no
+  -- GROUPING may stand there.
   pub IsTypedFunction : List Field → Clause → SetFunction → Type 0
   IsTypedFunction fields c (over_all a) = IsTrue (may_stand c a) × IsTypedAggregate fields a
   IsTypedFunction fields c (over_filtered a p) = IsTrue (may_stand c a) × IsTypedAggregate fields a × IsTypedPredicate fields [] clause.Where p
@@ -108,8 +110,8 @@ abbrev mutual
   IsTypedOperand fields grouped c (expression e) = IsTypedExpression fields grouped c e
   IsTypedOperand fields grouped c (literal a) = ⊤
 
-  -- In comparisons, BETWEEN and IN all operands and literals are of one type; IS NULL takes any operand;
-  -- a bare name is a column of truth values.
+  -- In comparisons, BETWEEN and IN all operands and literals are of one type; IS NULL takes any
+  -- operand; a bare name is a column of truth values.
   pub IsTypedPredicate : List Field → List ℕ → Clause → Predicate → Type 0
   IsTypedPredicate fields grouped c (or_of ps) = AreTypedParts fields grouped c ps
   IsTypedPredicate fields grouped c (and_of ps) = AreTypedParts fields grouped c ps
@@ -138,9 +140,10 @@ abbrev pub IsTypedClause : List Field → List ℕ → Clause → Option Predica
 IsTypedClause fields grouped c None = ⊤
 IsTypedClause fields grouped c (Some p) = IsTypedPredicate fields grouped c p
 
--- A query is typed under a schema where each of its clauses is: names are columns, or grouping columns where
--- only these may stand, types agree, and functions stand where they may. It has at most 256 expanded grouping
--- sets and at most 64 different set functions, and the headers of its items differ.
+-- A query is typed under a schema where each of its clauses is: names are columns, or grouping
+-- columns where only these may stand, types agree, and functions stand where they may. It has at
+-- most 256 expanded grouping sets and at most 64 different set functions, and the headers of its
+-- items differ.
 pub record IsTyped (fields : List Field) (t : Query) : Type 0 where
   pub where_condition : IsTypedClause fields (grouping_places fields t) clause.Where t.where_condition
   pub groups : All (IsColumn fields) (grouping_names t)

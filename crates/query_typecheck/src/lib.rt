@@ -1,4 +1,5 @@
-//! Whether a query is typed under a schema, and which fault is its first; what a typed query is resolved to.
+//! Whether a query is typed under a schema, and which fault is its first; what a typed query is
+//! resolved to.
 #![tactic(auto)]
 
 mod laws;

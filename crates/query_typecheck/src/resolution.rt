@@ -39,8 +39,9 @@ const MAX_SET_FUNCTIONS: u64 = 64;
 
 /// What a query is resolved to under a schema: places of columns, from 0, in place of their names.
 ///
-/// Example: `SELECT COUNT(*) FROM lines GROUP BY ROLLUP (r, d)` is resolved under the columns `d:text,r:text` to the
-/// grouping columns 1 and 0, the sets of 1 and 0, of 1, and of none, and the one set function `CountRows`.
+/// Example: `SELECT COUNT(*) FROM lines GROUP BY ROLLUP (r, d)` is resolved under the columns
+/// `d:text,r:text` to the grouping columns 1 and 0, the sets of 1 and 0, of 1, and of none, and the
+/// one set function `CountRows`.
 pub struct Resolved {
     grouping: Vec<usize>,
     sets: Vec<Vec<usize>>,
@@ -83,17 +84,19 @@ impl Resolved {
         self.grouping.as_slice()
     }
 
-    /// The grouping sets, each as the places of its columns, in the order in which GROUP BY first names them: the
-    /// expanded list, under GROUP BY DISTINCT without each set that has the same columns as an earlier one. Without
-    /// GROUP BY it is the one empty set. ISO/IEC 9075-2 `<group by clause>`.
+    /// The grouping sets, each as the places of its columns, in the order in which GROUP BY first
+    /// names them: the expanded list, under GROUP BY DISTINCT without each set that has the same
+    /// columns as an earlier one. Without GROUP BY it is the one empty set. ISO/IEC 9075-2
+    /// `<group by clause>`.
     pub fn sets(&self) -> &[Vec<usize>]
         ensures { contents result.now ≡ self.now.sets }
     {
         self.sets.as_slice()
     }
 
-    /// The different set functions, in the order in which they first stand in SELECT, HAVING and ORDER BY, each with
-    /// the index of its FILTER among the different filters, from 0, where it has one.
+    /// The different set functions, in the order in which they first stand in SELECT, HAVING and
+    /// ORDER BY, each with the index of its FILTER among the different filters, from 0, where it
+    /// has one.
     pub fn functions(&self) -> &[FilteredFunction]
         ensures { result.now ≡ self.now.functions }
     {
@@ -126,7 +129,8 @@ fn check_items(scope: &ClauseScope, items: &[Item]) -> Result<(), QueryFault>
 
 /// The expression that a key stands for: that of the first item whose alias it is, else its own.
 ///
-/// Example: with the items `d, SUM(q) AS s` the key `s` stands for `SUM(q)`, and the key `d` for itself.
+/// Example: with the items `d, SUM(q) AS s` the key `s` stands for `SUM(q)`, and the key `d` for
+/// itself.
 pub fn key_expression<'a>(items: &'a [Item], expression: &'a Expression) -> &'a Expression
     ensures { expression_form result.now
         ≡ key_expression (map item_form items.now) (expression_form expression.now) }
@@ -288,15 +292,16 @@ fn resolve(alloc: Global, tree: &Tree, schema: &Schema) -> Result<Resolved, Quer
 
 /// Checks a query under a schema, and resolves it.
 ///
-/// Example: of `SELECT d FROM lines GROUP BY r` and `d:text,r:text` it answers `NotGrouped` with `d`.
+/// Example: of `SELECT d FROM lines GROUP BY r` and `d:text,r:text` it answers `NotGrouped` with
+/// `d`.
 ///
 /// # Errors
 ///
-/// The first fault, in the order WHERE, GROUP BY, SELECT, HAVING, ORDER BY, each from left to right: `UnknownColumn`
-/// and `NotGrouped` with the name, `TypesDisagree`, `FunctionNotAllowed`. Behind the names of GROUP BY comes
-/// `OverLimit` where it stands for more than 256 sets; behind the items of SELECT `RepeatedHeader` with the header;
-/// and at the end `OverLimit` where there are more than 64 different set functions. `OutOfMemory` says nothing of the
-/// query.
+/// The first fault, in the order WHERE, GROUP BY, SELECT, HAVING, ORDER BY, each from left to
+/// right: `UnknownColumn` and `NotGrouped` with the name, `TypesDisagree`, `FunctionNotAllowed`.
+/// Behind the names of GROUP BY comes `OverLimit` where it stands for more than 256 sets; behind
+/// the items of SELECT `RepeatedHeader` with the header; and at the end `OverLimit` where there are
+/// more than 64 different set functions. `OutOfMemory` says nothing of the query.
 pub fn check_tree(alloc: Global, tree: &Tree, schema: &Schema) -> Result<Resolved, QueryFault>
     ensures typed { OnOk result (IsTyped schema.now (tree_form tree.now)) }
     ensures resolved { IfOk result (λ r. r ≡ resolution_of schema.now (tree_form tree.now)) }

@@ -2,8 +2,8 @@
 
 use values::Column;
 
-/// The clause in which an expression stands, which says what its names stand for and which functions may stand there.
-/// A FILTER is looked at as WHERE is.
+/// The clause in which an expression stands, which says what its names stand for and which
+/// functions may stand there. A FILTER is looked at as WHERE is.
 ///
 /// Example: `AVG(q)` may stand in `Clause::Select`, and not in `Clause::Having`.
 #[derive(Clone, Copy, PartialEq, Eq)]

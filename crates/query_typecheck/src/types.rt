@@ -94,7 +94,8 @@ fn check_grouping(scope: &ClauseScope, names: &[Text]) -> Result<(), QueryFault>
     }
 }
 
-/// Whether a set function takes columns of a type: COUNT of each, SUM and AVG whole numbers, MIN and MAX also texts.
+/// Whether a set function takes columns of a type: COUNT of each, SUM and AVG whole numbers, MIN
+/// and MAX also texts.
 fn takes(aggregate: &Aggregate, kind: Kind) -> bool
     ensures { result ≡ list_any (same_kind kind) (takes aggregate.now) }
 {
@@ -258,7 +259,8 @@ pub(crate) fn check_expression(
     }
 }
 
-/// Whether a set function may stand in the clause, takes its column, and has a FILTER that is typed as WHERE is.
+/// Whether a set function may stand in the clause, takes its column, and has a FILTER that is typed
+/// as WHERE is.
 #[cycle(check_predicate)]
 fn check_function(scope: &ClauseScope, function: &SetFunction) -> Result<(), QueryFault>
     ensures fault { Answers result (function_fault (fields_of scope.now.columns.now)
@@ -300,7 +302,8 @@ fn check_operand(scope: &ClauseScope, operand: &Operand) -> Result<(), QueryFaul
     }
 }
 
-/// Whether a predicate is typed in the clause: of an atom its operands from the left, then their types.
+/// Whether a predicate is typed in the clause: of an atom its operands from the left, then their
+/// types.
 #[cycle(check_predicate)]
 pub(crate) fn check_predicate(scope: &ClauseScope, predicate: &Predicate) -> Result<(), QueryFault>
     ensures fault { Answers result (predicate_fault (fields_of scope.now.columns.now)

@@ -83,7 +83,8 @@ report-of-a-rollup = refl
 abbrev ordered_by : List SortKey → Query
 ordered_by keys = record { items = query.items; where_condition = None; distinct_sets = false; groups = query.groups; having_condition = None; keys = keys }
 
--- ORDER BY n DESC, r NULLS FIRST: of the rows of one record, those that show NULL for r are first; of these the one of the first set is
+-- ORDER BY n DESC, r NULLS FIRST: of the rows of one record, those that show NULL for r are first;
+-- of these the one of the first set is
 by-a-count : sorted_rows fields (ordered_by (record { expression = name (codes "n"); descending = true; nulls_first = true } ∷ record { expression = name (codes "r"); descending = false; nulls_first = true } ∷ [])) found
     ≡ group 2 [] 3 ∷ group 1 (text (codes "x") ∷ []) 2 ∷ group 0 (text (codes "x") ∷ null ∷ []) 1 ∷ group 1 (text (codes "y") ∷ []) 1 ∷ group 0 (text (codes "x") ∷ text (codes "n") ∷ []) 1 ∷ []
 by-a-count = refl
@@ -124,7 +125,8 @@ rows-of-some = refl
 rows-of-a-text : rows_having_true fields (query_having r_is_n) found ≡ group 0 (text (codes "x") ∷ text (codes "n") ∷ []) 1 ∷ []
 rows-of-a-text = refl
 
--- a column that is not in the set of the row is NULL, so a comparison with it is unknown, and NOT is True of no such row
+-- a column that is not in the set of the row is NULL, so a comparison with it is unknown, and NOT
+-- is True of no such row
 unknown-where-rolled-up : truth (value_in_row fields (query_having r_is_n) (group 1 (text (codes "y") ∷ []) 1)) r_is_n ≡ Unknown
 unknown-where-rolled-up = refl
 

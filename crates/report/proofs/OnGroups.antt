@@ -25,7 +25,8 @@ each-shown plan sources (group ∷ groups) each within =
     let rest = each-shown plan sources groups each (All-tail (λ (r : Bor (ℕ × Group)). HasSetUnder plan (row_of r.now)) group groups within) in
     λ i. first i ∷ rest i
 
--- the sources that were looked up under a plan's view, and the groups that are shown under it, as slices
+-- the sources that were looked up under a plan's view, and the groups that are shown under it, as
+-- slices
 module _ (plan view : PlannedQuery) (found : List ResultRow) (shown groups : List (Bor (ℕ × Group))) (made sources : List (Vec ValueSource)) (is : view ≡ plan) (same_groups : groups ≡ shown) (same_sources : sources ≡ made)
     (arranges : map (λ (r : Bor (ℕ × Group)). row_of r.now) shown ≡ sorted_rows view.fields view.query found)
     (within : All (λ (r : Bor (ℕ × Group)). HasSetUnder view (row_of r.now)) shown)

@@ -1,4 +1,5 @@
 //! The bytes of a report, whose rows are written by the calling thread alone or by several.
+
 ghost use Rattle.std.specs.Prelude.{◌≡◌, ◌<◌, All, IfOk, length, map};
 ghost use Rattle.group_tables.specs.Found.{row_of};
 ghost use Rattle.semantics.specs.Texts.{report_bytes};
@@ -17,8 +18,8 @@ use std::marker::Sync;
 use std::thread;
 use std::thread::Threads;
 
-/// A report whose rows are to be written: those of groups in order, where the rows of each grouping set have what they show
-/// from some sources.
+/// A report whose rows are to be written: those of groups in order, where the rows of each grouping
+/// set have what they show from some sources.
 struct WriteReport<'a> {
     alloc: Global,
     plan: &'a Plan,
@@ -121,7 +122,8 @@ fn write_among<H: Threads + Sync>(
     join_parts(text, texts)
 }
 
-/// The bytes of the rows of groups, in parts of so many rows, each by a thread of its own where one can be started.
+/// The bytes of the rows of groups, in parts of so many rows, each by a thread of its own where one
+/// can be started.
 fn texts_among<H: Threads + Sync>(
     rt: &H,
     alloc: Global,

@@ -1,4 +1,5 @@
 //! The fields of a row.
+
 ghost use Rattle.std.specs.Prelude.{◌≡◌, [], ◌∷◌, ◌++◌, IfOk, OnOk, codes, decimal, map};
 ghost use Rattle.std.specs.Fmt.{signed_decimal};
 ghost use Rattle.values.specs.Datum.{data_of, datum_of};
@@ -30,8 +31,8 @@ pub(crate) fn write_cells(
     Ok(())
 }
 
-/// Writes what a group shows as fields over those of another row, whose memory is used again: what it has at each of
-/// these sources.
+/// Writes what a group shows as fields over those of another row, whose memory is used again: what
+/// it has at each of these sources.
 pub(crate) fn write_group(
     fields: &mut ByteRecord,
     alloc: Global,

@@ -1,7 +1,7 @@
 //! The bytes of a report, and those of the list of refused lines.
 //!
-//! The definitions are in `specs/`: the two texts (CSV as the crate `csv` writes it). Which rows a report has, what they
-//! show and how they stand is defined in the crate `report_rows`.
+//! The definitions are in `specs/`: the two texts (CSV as the crate `csv` writes it). Which rows a
+//! report has, what they show and how they stand is defined in the crate `report_rows`.
 #![tactic(auto)]
 
 mod among;

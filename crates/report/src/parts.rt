@@ -1,4 +1,5 @@
 //! Texts that are made in parts, each on a thread of its own.
+
 ghost use Rattle.std.specs.Prelude.{◌≡◌, ◌++◌, IfOk, OnOk};
 ghost use Rattle.std.specs.List.{flat_map};
 ghost use Rattle.report_rows.specs.Parts.{AreMade, items_of};

@@ -1,4 +1,5 @@
 //! The list of refused lines.
+
 ghost use Rattle.std.specs.Prelude.{◌≡◌, ◌<◌, ◌++◌, IfOk, OnOk, codes, decimal, length, max};
 ghost use Rattle.values.specs.Schema.{fields_of};
 ghost use Rattle.semantics.specs.Canonical.{name_at};
@@ -13,17 +14,20 @@ use std::alloc::{AllocError, Global};
 use tables::Groups;
 use values::{Column, Schema};
 
-/// The most bytes of a refused line beside the name of a column: those of the words, of a number of 64 bits and of a
-/// line feed.
+/// The most bytes of a refused line beside the name of a column: those of the words, of a number of
+/// 64 bits and of a line feed.
 const MOST_BESIDE_A_NAME: usize = 48;
 
-/// The bytes of the list of refused lines: for each, in the order given, `line N: ` and what is wrong with it, ended by
-/// a line feed. There are none where no line is refused. N is the number of the line in the input, from 1.
+/// The bytes of the list of refused lines: for each, in the order given, `line N: ` and what is
+/// wrong with it, ended by a line feed. There are none where no line is refused. N is the number of
+/// the line in the input, from 1.
 ///
-/// A fault at the place of a column is said to be in the column of this name, and in one without a name where there is none.
+/// A fault at the place of a column is said to be in the column of this name, and in one without a
+/// name where there is none.
 ///
-/// Example: under the columns `shop:text,cents:int`, line 2 with `NoJson` and line 5 with `BadValue(1)` give
-/// `line 2: not JSON` and `line 5: bad value in column cents`, each ended by a line feed.
+/// Example: under the columns `shop:text,cents:int`, line 2 with `NoJson` and line 5 with
+/// `BadValue(1)` give `line 2: not JSON` and `line 5: bad value in column cents`, each ended by a
+/// line feed.
 ///
 /// # Errors
 ///
@@ -40,13 +44,13 @@ pub fn refused_text(alloc: Global, groups: &Groups, schema: &Schema) -> Result<V
 
 /// Adds a refused line to the bytes of a list of refused lines, as `refused_text` has it.
 ///
-/// Example: under the columns `shop:text,cents:int`, line 5 with `BadValue(1)` adds `line 5: bad value in column cents`,
-/// ended by a line feed.
+/// Example: under the columns `shop:text,cents:int`, line 5 with `BadValue(1)` adds
+/// `line 5: bad value in column cents`, ended by a line feed.
 ///
 /// # Errors
 ///
-/// `AllocError` where the text has no room for the line, and there is no memory for more: then the text ends with a
-/// beginning of the line.
+/// `AllocError` where the text has no room for the line, and there is no memory for more: then the
+/// text ends with a beginning of the line.
 pub fn push_refused_line(
     text: &mut Vec<u8>,
     schema: &Schema,
@@ -63,8 +67,8 @@ pub fn push_refused_line(
 
 /// So many bytes as are enough for each line of a list of refused lines, under these columns.
 ///
-/// Example: under the columns `shop:text,cents:int` it is 53, since `line 18446744073709551615: bad value in column cents`
-/// has 52 bytes, and a line feed ends it.
+/// Example: under the columns `shop:text,cents:int` it is 53, since
+/// `line 18446744073709551615: bad value in column cents` has 52 bytes, and a line feed ends it.
 pub fn refused_line_room(schema: &Schema) -> usize
     ensures room { result ≡ line_room schema.now }
     ensures enough { IsLineRoom schema.now result }

@@ -1,4 +1,5 @@
 //! The bytes of a report.
+
 ghost use Rattle.std.specs.Prelude.{◌≡◌, ◌<◌, [], Some, All, IfOk, OnOk, length, map};
 ghost use Rattle.csv.specs.Records.{fields_of};
 ghost use Rattle.csv.specs.Writing.{row_text, default_writer};
@@ -26,15 +27,16 @@ use values::Value;
 /// How many rows are written at a time.
 const FEW: usize = 64;
 
-/// The bytes of a report: CSV (RFC 4180, section 2) with commas, line feeds, and quotes where they are needed. The
-/// first row holds the header of each item of SELECT. NULL is `\N`, and a text that begins with `\` has one more in
-/// front; truth values are `true` and `false`, whole numbers plain decimal, and an average is its sum and its count
-/// with `/` between. Each row ends with one line feed, the last one too, where the RFC has CRLF.
+/// The bytes of a report: CSV (RFC 4180, section 2) with commas, line feeds, and quotes where they
+/// are needed. The first row holds the header of each item of SELECT. NULL is `\N`, and a text that
+/// begins with `\` has one more in front; truth values are `true` and `false`, whole numbers plain
+/// decimal, and an average is its sum and its count with `/` between. Each row ends with one line
+/// feed, the last one too, where the RFC has CRLF.
 ///
 /// Each row has one cell for each item of SELECT, as those that `arrange` gives have.
 ///
-/// Example: for `SELECT d, AVG(q) FROM lines GROUP BY d` and the rows `'x'`, `Ratio(7, 2)` and `'y'`, NULL, it has the
-/// lines `d,AVG(q)`, `x,7/2` and `y,\N`.
+/// Example: for `SELECT d, AVG(q) FROM lines GROUP BY d` and the rows `'x'`, `Ratio(7, 2)` and
+/// `'y'`, NULL, it has the lines `d,AVG(q)`, `x,7/2` and `y,\N`.
 ///
 /// # Errors
 ///
@@ -52,13 +54,13 @@ pub fn report_text(alloc: Global, rows: &[ReportRow], plan: &Plan) -> Result<Vec
     text_of(writer)
 }
 
-/// The bytes of the report on groups: those that `report_text` gives for the rows of `arrange`, of which it makes none. The
-/// executor puts the rows in order and writes them.
+/// The bytes of the report on groups: those that `report_text` gives for the rows of `arrange`, of
+/// which it makes none. The executor puts the rows in order and writes them.
 ///
 /// The groups fit the plan, as `arrange` asks for.
 ///
-/// Example: for `SELECT d, COUNT(*) AS n FROM lines GROUP BY d`, and the groups of records whose `d` are `'y'`, `'x'` and
-/// `'x'`, it has the lines `d,n`, `x,2` and `y,1`.
+/// Example: for `SELECT d, COUNT(*) AS n FROM lines GROUP BY d`, and the groups of records whose
+/// `d` are `'y'`, `'x'` and `'x'`, it has the lines `d,n`, `x,2` and `y,1`.
 ///
 /// # Errors
 ///
@@ -102,8 +104,9 @@ pub(crate) fn put_groups(
     Ok(())
 }
 
-/// Writes the rows of a few groups. Groups in order lie anywhere in memory: all are looked at first, one right after the
-/// other, so that the processor fetches them side by side, and does not wait for each before it is written.
+/// Writes the rows of a few groups. Groups in order lie anywhere in memory: all are looked at
+/// first, one right after the other, so that the processor fetches them side by side, and does not
+/// wait for each before it is written.
 fn put_few(
     writer: &mut Writer<Vec<u8>>,
     alloc: Global,
@@ -224,8 +227,8 @@ fn put_row(
     put_fields(writer, fields)
 }
 
-/// Writes the row of a group, by a record of fields whose memory is used again: what the group has at each of these
-/// sources.
+/// Writes the row of a group, by a record of fields whose memory is used again: what the group has
+/// at each of these sources.
 fn put_group(
     writer: &mut Writer<Vec<u8>>,
     fields: &mut ByteRecord,

@@ -165,7 +165,8 @@ keys-more fields t (j ∷ ks) k x y =
     let here = compare_by_key j (key_value fields t x j) (key_value fields t y j) in
     ap (ordering_then here) (keys-more fields t ks k x y) ∙ then-again here (compare_by_keys fields t ks x y) (compare_by_key k (key_value fields t x k) (key_value fields t y k))
 
--- so a key that is left out where it has the values of another tells what it tells behind the others
+-- so a key that is left out where it has the values of another tells what it tells behind the
+-- others
 with-key-tells : (cs : List CodedForm) (c : CodedForm) (x y : ResultRow) → under_coded (with_key cs c) x y ≡ ordering_then (under_coded cs x y) (compare_by_key c.0 (coded_value x c) (coded_value y c))
 with-key-tells cs c x y =
     elim (is_repeated cs c.1) as (λ (t : Bool). is_repeated cs c.1 ≡ t → under_coded (cond t cs (cs ++ c ∷ [])) x y ≡ ordering_then (under_coded cs x y) (compare_by_key c.0 (coded_value x c) (coded_value y c))) [
@@ -222,7 +223,8 @@ none-differ : (place : ℕ) (ks : List SortKey) → under_values place ks [] [] 
 none-differ place [] = refl
 none-differ place (k ∷ ks) = none-differ (suc place) ks
 
--- default keys for the first values of lists that are equally long tell nothing that the lists do not
+-- default keys for the first values of lists that are equally long tell nothing that the lists do
+-- not
 tell-nothing : (ks : List SortKey) → AllByRecursion IsDefault ks → (xs ys : List Datum) → length xs ≡ length ys
     → ordering_then (under_values 0 ks xs ys) (slice_cmp value_order xs ys) ≡ slice_cmp value_order xs ys
 tell-nothing [] all xs ys long = refl
@@ -262,7 +264,8 @@ first-at : (x : ResultRow) → x.0 ≡ 0 → (place : ℕ) (sources : List Value
 first-at x first place [] e = absurd cc
 first-at x first place (source ∷ sources) e = ap (λ (n : ℕ). slice_index_or (map (value_there x) (source ∷ sources)) n null) first ∙ key-at x place source e
 
--- under such keys rows of the first grouping set stand as by the first values of the keys of their groups
+-- under such keys rows of the first grouping set stand as by the first values of the keys of their
+-- groups
 under-first : (x y : ResultRow) → x.0 ≡ 0 → y.0 ≡ 0 → (place : ℕ) (cs : List CodedForm) → are_default_from place cs ≡ true → under_coded cs x y ≡ under_values place (map (λ c. c.0) cs) x.1.key y.1.key
 under-first x y first_x first_y place [] e = refl
 under-first x y first_x first_y place (c ∷ cs) e =

@@ -37,7 +37,8 @@ module _ {X Y : Type 0} (IsOf : List X → List Y → Type 0) where
             (omega (arith, left, more, all)),
       )
 
-  -- all parts one after the other are of the whole list, where what is of one list and what is of another are together of both
+  -- all parts one after the other are of the whole list, where what is of one list and what is of
+  -- another are together of both
   pub parts-joined : IsOf [] [] → ((xs us : List X) (ys vs : List Y) → IsOf xs ys → IsOf us vs → IsOf (xs ++ us) (ys ++ vs))
       → (size : ℕ) (list : List X) (parts : List (Result (Vec Y) AllocError)) → AreOfParts IsOf size list parts → AreMade parts → IsOf list (flat_map items_of parts)
   parts-joined none both size list [] of-parts made = subst (λ (xs : List X). IsOf xs []) (sym of-parts) none
@@ -64,7 +65,8 @@ ranks-joined cs = parts-joined (AreEntriesOf cs) (record { codable = tt; entries
           (IsPermutation-append (map (entry_at cs) xs) (map entry_form ys) (map (entry_at cs) us) (map entry_form vs) p.entries q.entries));
     }
 
--- parts of so many rows are all rows, where there are as many as whole parts, and one more where rows are left
+-- parts of so many rows are all rows, where there are as many as whole parts, and one more where
+-- rows are left
 pub parts-cover : (rows size parts : ℕ) → 0 < size → parts ≡ rows / size + min 1 (rows % size) → rows ≤ parts * size
 parts-cover rows size parts some count =
     let whole = div-add-mod' rows size in

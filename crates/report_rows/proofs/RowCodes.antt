@@ -15,7 +15,9 @@ use Rattle.sort_keys.proofs.Told.{AreBytes, Told, alike, parts-tell, told-then}
 use Rattle.sort_keys.proofs.Values.{bytes-both, index-bytes, indexes-tell, key-bytes, key-tell, keys-tell, values-bytes}
 use Rattle.report_rows.specs.Inside.SortEntries.{AreCodable, CodedForm, IsCodableRow, coded_code, coded_value, keys_code, row_code, under_coded}
 
--- how two lists of values stand to each other, where the first key is for the values at a place and each other one for those at the next: as under the first key that tells its values apart; there is NULL behind the end of a list
+-- how two lists of values stand to each other, where the first key is for the values at a place and
+-- each other one for those at the next: as under the first key that tells its values apart; there
+-- is NULL behind the end of a list
 abbrev pub under_values : ℕ → List SortKey → List Datum → List Datum → Ordering
 under_values place [] xs ys = Equal
 under_values place (k ∷ ks) xs ys = ordering_then (compare_by_key k (slice_index_or xs place null) (slice_index_or ys place null)) (under_values (suc place) ks xs ys)
@@ -41,7 +43,8 @@ row-tell : (cs : List CodedForm) (x y : ResultRow) → IsCodableRow cs x → IsC
 row-tell cs x y a b long =
     told-then (values-tell cs x y a.values b.values) (λ _. told-then (indexes-tell x.0 y.0 a.index b.index) (λ same. keys-tell x.1.key y.1.key a.key b.key (long (exact_unsigned x.0 y.0 same))))
 
--- by their codes rows stand as by their values for the keys, then by the indexes of their grouping sets, and in one set by their keys; the keys of one set are equally long
+-- by their codes rows stand as by their values for the keys, then by the indexes of their grouping
+-- sets, and in one set by their keys; the keys of one set are equally long
 pub codes-tell : (cs : List CodedForm) (x y : ResultRow) → IsCodableRow cs x → IsCodableRow cs y → (x.0 ≡ y.0 → length x.1.key ≡ length y.1.key)
     → parts_order (parts_of (row_code cs x)) (parts_of (row_code cs y)) ≡ ordering_then (under_coded cs x y) (by_key x y)
 codes-tell cs x y a b long = parts-tell (row-tell cs x y a b long) (row-bytes cs x a) (row-bytes cs y b)

@@ -148,7 +148,8 @@ zip-next {A} {B} R xs ys more i d y below is all r =
     subst (λ (firsts : List A). AllZip R firsts more) (sym (take_more xs i d below))
     (subst (λ (zs : List B). AllZip R (take i xs ++ get_or xs i d ∷ []) zs) (sym is) (all_zipped_more R (take i xs) ys (get_or xs i d) y all r))
 
--- for a group of which HAVING is asked, the condition at its index can be evaluated, and is worth what HAVING is worth for its row
+-- for a group of which HAVING is asked, the condition at its index can be evaluated, and is worth
+-- what HAVING is worth for its row
 pub having-of : (plan : PlannedQuery) (rows : List (ℕ × Group)) (i : ℕ) (x : ℕ × Group) (conditions : Vec Condition) (c : Condition) (values : List Datum) → i < length rows → x ≡ get_or rows i x
     → AreFitting plan.fields plan.query (map row_of rows) → AreHaving plan (Some conditions) → c ≡ get_or conditions.items x.0 c → values ≡ row_values (row_of x).1.key (row_of x).1.cells
     → (is_safe c values ≡ true) × (condition_truth c values ≡ having_truth plan (row_of x))

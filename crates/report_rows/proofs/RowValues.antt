@@ -1,4 +1,5 @@
--- The value that a row shows for an expression that is typed in HAVING is of the type of the expression, or NULL.
+-- The value that a row shows for an expression that is typed in HAVING is of the type of the
+-- expression, or NULL.
 use Rattle.std.proofs.Common.{◌≡◌, ◌∙◌, ◌<◌, inl, inr, ℕ, zero, suc, pos, negsuc, ◌==◌, Bool, true, false, cond, Option, Some, None, List, [], ◌∷◌, get_or, length, nat_lt, position, refl, sym, ap, subst, arith}
 use Rattle.std.proofs.lemmas.Bool.Decides.{nat_tests}
 use Rattle.std.proofs.lemmas.List.Elements.{recursion_from_All}

@@ -51,7 +51,8 @@ set-part fields t x within =
     ap (λ (sets : List (List ℕ)). get_or sets x.0 []) (sets_by_names fields t)
     ∙ get_or-map (set_of_names fields t) (names_kept fields t) x.0 [] [] (omega (arith, within, n))
 
--- how two rows stand to each other by the index of their grouping set, and in one set by what they show for the grouping columns
+-- how two rows stand to each other by the index of their grouping set, and in one set by what they
+-- show for the grouping columns
 abbrev pub by_columns : List Field → Query → ResultRow → ResultRow → Ordering
 by_columns fields t x y = ordering_then (nat_cmp x.0 y.0) (slice_cmp value_order (grouping_values fields t x) (grouping_values fields t y))
 

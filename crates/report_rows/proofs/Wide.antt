@@ -12,7 +12,8 @@ use Rattle.report_rows.specs.Shown.{cells_of}
 use Rattle.semantics.specs.Rows.{expression_value, row_values}
 use Rattle.report_rows.specs.declared.row.ReportRow.{ReportRow}
 
--- where the cells of rows, and then others, are those that groups show, each of the rows has one for each item
+-- where the cells of rows, and then others, are those that groups show, each of the rows has one
+-- for each item
 wide : (fields : List Field) (t : Query) (rows : List ReportRow) (others : List (List CellValue)) (found : List ResultRow) → map cells_of rows ++ others ≡ map (row_values fields t) found → AllByRecursion (λ row. length row.cells.items ≡ length t.items) rows
 wide fields t [] others found e = tt
 wide fields t (row ∷ rows) others [] e = absurd cc

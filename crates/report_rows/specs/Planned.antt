@@ -4,6 +4,6 @@ use Rattle.semantics.specs.Sets.{sets_of}
 use Rattle.query_plan.specs.Planned.{PlannedQuery}
 use Rattle.semantics.specs.ResultRows.{ResultRow}
 
--- the index of a row is that of a grouping set
+-- The index of a row is that of a grouping set.
 abbrev pub HasSetUnder : PlannedQuery → ResultRow → Type 0
 HasSetUnder plan row = row.0 < length (sets_of plan.fields plan.query)

@@ -6,6 +6,6 @@ use Rattle.group_tables.specs.Cells.{summary_of}
 
 -- ---- rows
 
--- the cells of a row, apart from where they lie in memory
+-- The cells of a row, apart from where they lie in memory.
 abbrev pub cells_of : ReportRow → List CellValue
 cells_of row = map summary_of row.cells.items

@@ -1,4 +1,5 @@
 //! The rows of a report in their order.
+
 ghost use Rattle.std.specs.Prelude.{◌≡◌, ◌<◌, All, IfOk, length, map};
 ghost use Rattle.group_tables.specs.Found.{row_of};
 ghost use Rattle.group_tables.specs.Fitting.{AreFitting};
@@ -16,16 +17,18 @@ use crate::view::PlanView;
 use group_tables::{Executor, Group, Serial};
 use std::alloc::{AllocError, Global};
 
-/// The rows of a report on groups, each of which stands beside the index of its grouping set. They are those for which
-/// the predicate of HAVING is True, and all where HAVING is not written (ISO/IEC 9075-2, `<having clause>`), by the keys of
-/// ORDER BY (`<sort specification list>`), then by the index of the grouping set, and in one set by the grouping columns
-/// in the order in which GROUP BY first names them, ascending and with NULL last.
+/// The rows of a report on groups, each of which stands beside the index of its grouping set. They
+/// are those for which the predicate of HAVING is True, and all where HAVING is not written
+/// (ISO/IEC 9075-2, `<having clause>`), by the keys of ORDER BY (`<sort specification list>`), then
+/// by the index of the grouping set, and in one set by the grouping columns in the order in which
+/// GROUP BY first names them, ascending and with NULL last.
 ///
-/// The groups fit the plan: the index of each is that of a grouping set, its key has a value for each column of the set,
-/// it has a cell for each set function, each value and cell is of its type, and no index and key stand twice together.
+/// The groups fit the plan: the index of each is that of a grouping set, its key has a value for
+/// each column of the set, it has a cell for each set function, each value and cell is of its type,
+/// and no index and key stand twice together.
 ///
-/// Example: for `SELECT d, COUNT(*) AS n FROM lines GROUP BY d`, and the groups of records whose `d` are `'y'`, `'x'` and
-/// `'x'`, it answers the rows `'x'`, 2 and `'y'`, 1.
+/// Example: for `SELECT d, COUNT(*) AS n FROM lines GROUP BY d`, and the groups of records whose
+/// `d` are `'y'`, `'x'` and `'x'`, it answers the rows `'x'`, 2 and `'y'`, 1.
 ///
 /// # Errors
 ///
@@ -50,8 +53,8 @@ pub fn arranged_rows(
     Ok(rows)
 }
 
-/// The groups that a report shows, in the order of its rows, each beside the index of its grouping set. The executor puts
-/// them in order.
+/// The groups that a report shows, in the order of its rows, each beside the index of its grouping
+/// set. The executor puts them in order.
 ///
 /// The groups fit the plan, as `arranged_rows` asks for.
 ///
@@ -76,8 +79,8 @@ pub fn shown_groups<'a, E: Executor>(
     put_in_order(executor, alloc, plan, unordered)
 }
 
-/// The row of a group, which stands beside the index of its grouping set, from where the rows of each set have what they
-/// show.
+/// The row of a group, which stands beside the index of its grouping set, from where the rows of
+/// each set have what they show.
 fn row_for(
     alloc: Global,
     sources: &[Vec<ValueSource>],

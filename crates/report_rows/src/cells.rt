@@ -1,4 +1,5 @@
 //! What a row shows for the items of SELECT.
+
 ghost use Rattle.std.specs.Prelude.{◌≡◌, ◌≤◌, ◌++◌, IfOk, OnOk, map, length, slice_get, slice_index_or, unwrap_or};
 ghost use Rattle.values.specs.Datum.{data_of, datum_of};
 ghost use Rattle.semantics.specs.Values.{null};
@@ -31,8 +32,8 @@ pub(crate) fn cell_from(source: &ValueSource, group: &Group) -> Result<Cell, All
     }
 }
 
-/// The value of what a group has where the rows of its grouping set have what they show. An average is no single value,
-/// and none may stand where the value is asked for.
+/// The value of what a group has where the rows of its grouping set have what they show. An average
+/// is no single value, and none may stand where the value is asked for.
 pub(crate) fn value_from(source: &ValueSource, group: &Group) -> Result<Value, AllocError>
     ensures { IfOk result (λ value. datum_of value ≡ cell_value (shown_at
         (data_of group.now.key.items) (map summary_of group.now.cells.items) source.now)) }
@@ -45,8 +46,8 @@ pub(crate) fn value_from(source: &ValueSource, group: &Group) -> Result<Value, A
 
 // ---- the values of a row
 
-/// Puts the values of the row of a group in place of others: those of its key, and behind them those of its cells. The
-/// memory of the others is used again.
+/// Puts the values of the row of a group in place of others: those of its key, and behind them
+/// those of its cells. The memory of the others is used again.
 pub(crate) fn put_row(group: &Group, values: &mut Vec<Value>) -> Result<(), AllocError>
     ensures { OnOk result (data_of values.new.items ≡ row_values
         (data_of group.now.key.items) (map summary_of group.now.cells.items)) }
@@ -112,7 +113,8 @@ fn is_rolled_up(columns: &[Column], set: &[usize], name: &Text) -> bool
     }
 }
 
-/// The number whose binary digits are 1 where the column is not in the grouping set, the last column's lowest.
+/// The number whose binary digits are 1 where the column is not in the grouping set, the last
+/// column's lowest.
 fn grouping_number(columns: &[Column], set: &[usize], names: &[Text]) -> u64
     requires { length names.now ≤ 8 }
     ensures { result ≡ grouping_number (fields_of columns.now) set.now names.now }

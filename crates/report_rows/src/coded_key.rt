@@ -1,4 +1,5 @@
 //! Keys of ORDER BY beside where rows have their values.
+
 use crate::source::ValueSource;
 use query_plan::Key;
 

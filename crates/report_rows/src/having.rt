@@ -1,4 +1,5 @@
 //! The rows of which HAVING is True.
+
 ghost use Rattle.std.specs.Prelude.{◌≡◌, IfOk, map};
 ghost use Rattle.group_tables.specs.Found.{row_of};
 ghost use Rattle.group_tables.specs.Fitting.{AreFitting};
@@ -38,8 +39,8 @@ pub(crate) fn rows_having_true<'a>(
     Ok(true_rows)
 }
 
-/// The condition of HAVING for the rows of each grouping set of the plan, in the order of the sets; none where HAVING is not
-/// written.
+/// The condition of HAVING for the rows of each grouping set of the plan, in the order of the sets;
+/// none where HAVING is not written.
 fn having_conditions(
     alloc: Global,
     plan: &PlanView<'_>,

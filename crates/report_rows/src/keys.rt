@@ -1,4 +1,5 @@
 //! The codes of rows, by which they are put in order.
+
 ghost use Rattle.std.specs.Prelude.{◌≡◌, ◌++◌, [], IfOk, MatchOption, OnOk, map};
 ghost use Rattle.values.specs.Datum.{datum_of};
 ghost use Rattle.semantics.specs.Values.{null};
@@ -21,7 +22,8 @@ use sort_keys::{SortKey, put_index, put_key_value, put_values};
 use std::alloc::{AllocError, Global};
 use values::Value;
 
-/// The value of the cell at a place. There is `None` where the cell is an average, which is no single value.
+/// The value of the cell at a place. There is `None` where the cell is an average, which is no
+/// single value.
 fn plain_value(cells: &[Cell], place: usize) -> Option<&Value>
     ensures { let shown = cell_value (shown_at [] (map summary_of cells.now) (CellAt place)) in
         MatchOption result (shown ≡ null) (λ value. shown ≡ datum_of value.now) }
@@ -32,7 +34,8 @@ fn plain_value(cells: &[Cell], place: usize) -> Option<&Value>
     }
 }
 
-/// The value of what a group has where the rows of its grouping set have what they show; `None` for NULL.
+/// The value of what a group has where the rows of its grouping set have what they show; `None` for
+/// NULL.
 fn value_at_source<'a>(source: &'a ValueSource, group: &'a Group) -> Option<&'a Value>
     ensures { let shown = value_at_source group.now source.now in
         MatchOption result (shown ≡ null) (λ value. shown ≡ datum_of value.now) }
@@ -61,8 +64,8 @@ fn put_source(
     }
 }
 
-/// Puts the code of the value of a key of ORDER BY for the row of a group, which stands beside the index of its
-/// grouping set, behind other bytes.
+/// Puts the code of the value of a key of ORDER BY for the row of a group, which stands beside the
+/// index of its grouping set, behind other bytes.
 fn put_key(
     code: &mut Vec<u8>,
     coded: &CodedKey<'_>,
@@ -96,8 +99,8 @@ fn put_keys(
     Ok(())
 }
 
-/// The sort key of the row of a group, which stands beside the index of its grouping set. The code is written into
-/// `code`, in place of what is there.
+/// The sort key of the row of a group, which stands beside the index of its grouping set. The code
+/// is written into `code`, in place of what is there.
 pub(crate) fn row_key(
     alloc: Global,
     code: &mut Vec<u8>,

@@ -1,12 +1,13 @@
-//! The rows of a report on groups: those of which HAVING is True, what each shows, and the order in which they stand.
+//! The rows of a report on groups: those of which HAVING is True, what each shows, and the order in
+//! which they stand.
 //!
-//! The definitions are in `specs/`: HAVING (`Having`), what a row shows for each item of SELECT (`Shown`), and the order of
-//! the rows (`Order`). It knows nothing of where groups come from, nor of the bytes of a report.
+//! The definitions are in `specs/`: HAVING (`Having`), what a row shows for each item of SELECT
+//! (`Shown`), and the order of the rows (`Order`). It knows nothing of where groups come from, nor
+//! of the bytes of a report.
 #![tactic(auto)]
 
 mod arrange;
 mod cells;
-mod telling_keys;
 mod coded_key;
 mod having;
 mod keys;
@@ -17,6 +18,7 @@ mod row;
 mod row_scope;
 mod sort_entry;
 mod source;
+mod telling_keys;
 mod view;
 
 pub use arrange::{arranged_rows, shown_groups};

@@ -1,4 +1,5 @@
 //! The order of rows.
+
 ghost use Rattle.std.specs.Prelude.{◌≡◌, ◌<◌, ◌++◌, IfOk, OnOk, map};
 ghost use Rattle.std.specs.List.{AllByRecursion, flat_map};
 ghost use Rattle.std.specs.List.Sorted.{IsPermutation, IsSortedBy};
@@ -9,11 +10,11 @@ ghost use Rattle.semantics.specs.Order.{row_order, sorted_by};
 ghost use Rattle.report_rows.specs.Parts.{AreMade, items_of};
 ghost use Rattle.report_rows.specs.Inside.SortEntries.{AreEntriesOf, AreEntriesOfParts, IsCodableRow, by_code, coded_form, entry_at, entry_form};
 
-use crate::telling_keys::coded_keys;
 use crate::coded_key::CodedKey;
 use crate::keys::row_key;
 use crate::parts::part_len;
 use crate::sort_entry::SortEntry;
+use crate::telling_keys::coded_keys;
 use crate::view::PlanView;
 use group_tables::{Executor, Group, Operation};
 use std::alloc::{AllocError, Global};
@@ -59,8 +60,8 @@ impl<'a, 'p, 'v> Operation for PutInOrder<'a, 'p, 'v> {
     }
 }
 
-/// The groups in the order of their rows, in which the executor puts them: by the keys of ORDER BY, where there are some,
-/// and else by their sets and keys.
+/// The groups in the order of their rows, in which the executor puts them: by the keys of ORDER BY,
+/// where there are some, and else by their sets and keys.
 pub(crate) fn put_in_order<'a, E: Executor>(
     executor: &E,
     alloc: Global,
@@ -93,8 +94,8 @@ fn in_order<'a>(
     groups_in(alloc, ordered)
 }
 
-/// The same. Where there are more groups than one part has, they are put in order in parts of so many, each by a thread of
-/// its own where one can be started, and the parts then together.
+/// The same. Where there are more groups than one part has, they are put in order in parts of so
+/// many, each by a thread of its own where one can be started, and the parts then together.
 fn in_order_among<'a, H: Threads + Sync>(
     rt: &H,
     alloc: Global,
@@ -118,8 +119,8 @@ fn in_order_among<'a, H: Threads + Sync>(
     groups_at(alloc, ordered)
 }
 
-/// The groups in parts of so many, each beside what their rows are put in order by, with these keys of ORDER BY, and
-/// each part in that order.
+/// The groups in parts of so many, each beside what their rows are put in order by, with these keys
+/// of ORDER BY, and each part in that order.
 fn parts_in_order<'a, H: Threads + Sync>(
     rt: &H,
     alloc: Global,
@@ -144,7 +145,8 @@ fn parts_in_order<'a, H: Threads + Sync>(
     Ok(parts)
 }
 
-/// The groups of one part beside what their rows are put in order by, with these keys of ORDER BY, in that order.
+/// The groups of one part beside what their rows are put in order by, with these keys of ORDER BY,
+/// in that order.
 fn part_in_order<'a>(
     alloc: Global,
     keys: &[CodedKey<'_>],
@@ -157,8 +159,8 @@ fn part_in_order<'a>(
     Ok(sort_entries(entries))
 }
 
-/// The groups beside what their rows are put in order by, with these keys of ORDER BY. Each code is written into the
-/// same memory.
+/// The groups beside what their rows are put in order by, with these keys of ORDER BY. Each code is
+/// written into the same memory.
 fn make_entries<'a>(
     alloc: Global,
     keys: &[CodedKey<'_>],
@@ -205,8 +207,8 @@ fn groups_in<'a>(
     Ok(groups)
 }
 
-/// The rows of all parts, one part after the other, where each of them was made. There may be as many as `count`; for more
-/// the list gets longer.
+/// The rows of all parts, one part after the other, where each of them was made. There may be as
+/// many as `count`; for more the list gets longer.
 fn rows_of_parts<'r, 'a>(
     alloc: Global,
     parts: &'r [Result<Vec<SortEntry<'a>>, AllocError>],
@@ -240,8 +242,8 @@ fn put_rows<'r, 'a>(
     Ok(())
 }
 
-/// Rows that stand in order part by part, in the order of what stands beside them. The parts are put together by moving
-/// what leads to the rows, not the rows.
+/// Rows that stand in order part by part, in the order of what stands beside them. The parts are
+/// put together by moving what leads to the rows, not the rows.
 fn merge_entries<'r, 'a>(rows: Vec<&'r SortEntry<'a>>) -> Result<Vec<&'r SortEntry<'a>>, AllocError>
     ensures permutation { IfOk result (λ v. IsPermutation rows.entry.items v.items) }
     ensures sorted { IfOk result (λ v. IsSortedBy

@@ -1,4 +1,5 @@
 //! What the names of HAVING stand for.
+
 ghost use Rattle.std.specs.Prelude.{◌≤◌, length};
 ghost use Rattle.semantics.specs.SetFunctions.{functions_of};
 ghost use Rattle.semantics.specs.Limits.{most_set_functions};
@@ -8,8 +9,8 @@ use crate::view::PlanView;
 use query_eval::{OperandSource, Scope};
 use query_plan::{Expression, Text};
 
-/// The scope of HAVING for the rows of a grouping set: the values of a row are those of its key, and behind them those of
-/// its cells.
+/// The scope of HAVING for the rows of a grouping set: the values of a row are those of its key,
+/// and behind them those of its cells.
 #[derive(Drop)]
 pub(crate) struct RowScope<'a, 'p> {
     pub plan: &'a PlanView<'p>,

@@ -1,4 +1,5 @@
 //! Groups beside the sort keys of their rows.
+
 use group_tables::Group;
 use sort_keys::SortKey;
 

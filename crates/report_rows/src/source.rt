@@ -1,4 +1,5 @@
 //! Where the rows of a grouping set have what they show, which is looked up once for all of them.
+
 ghost use Rattle.std.specs.Prelude.{◌≡◌, ◌<◌, ℕ, IfOk, IfSome, List, length, map, slice_index_or};
 ghost use Rattle.std.specs.Option.{option_map_or};
 ghost use Rattle.semantics.specs.Values.{null};
@@ -21,7 +22,8 @@ use values::{Column, Value};
 
 /// Where the rows of a grouping set have what they show for an expression.
 ///
-/// Example: under GROUP BY ROLLUP of `d`, where the set has no column, all rows show NULL for `d`, which is `Always`.
+/// Example: under GROUP BY ROLLUP of `d`, where the set has no column, all rows show NULL for `d`,
+/// which is `Always`.
 #[derive(Drop)]
 pub enum ValueSource {
     /// The value at this place of their key.
@@ -32,8 +34,8 @@ pub enum ValueSource {
     Always(Value),
 }
 
-/// The place in the keys of a grouping set of the value for the column of a name; `None` where the set has no such
-/// column.
+/// The place in the keys of a grouping set of the value for the column of a name; `None` where the
+/// set has no such column.
 pub(crate) fn key_place(columns: &[Column], set: &[usize], name: &Text) -> Option<usize>
     ensures shown { (key : Key)
         → option_map_or (λ at. slice_index_or key at null) result null
@@ -93,7 +95,8 @@ fn sources_of(
     Ok(sources)
 }
 
-/// Where the rows of each grouping set of the plan, in their order, have what they show for each of these expressions.
+/// Where the rows of each grouping set of the plan, in their order, have what they show for each of
+/// these expressions.
 fn sources_of_each(
     alloc: Global,
     plan: &PlanView<'_>,
@@ -126,9 +129,11 @@ fn item_expressions<'p>(
     Ok(expressions)
 }
 
-/// Where the rows of each grouping set of the plan, in their order, have what they show for each item of SELECT.
+/// Where the rows of each grouping set of the plan, in their order, have what they show for each
+/// item of SELECT.
 ///
-/// Example: for `SELECT d, COUNT(*) FROM lines GROUP BY d` it answers one list, of `KeyAt(0)` and `CellAt(0)`.
+/// Example: for `SELECT d, COUNT(*) FROM lines GROUP BY d` it answers one list, of `KeyAt(0)` and
+/// `CellAt(0)`.
 ///
 /// # Errors
 ///
@@ -144,7 +149,8 @@ pub fn sources_by_set(
     sources_of_each(alloc, plan, expressions.as_slice())
 }
 
-/// Where the rows of each grouping set of the plan, in their order, have what they show for an expression.
+/// Where the rows of each grouping set of the plan, in their order, have what they show for an
+/// expression.
 pub(crate) fn expression_sources(
     alloc: Global,
     plan: &PlanView<'_>,
@@ -162,7 +168,8 @@ pub(crate) fn expression_sources(
     Ok(sources)
 }
 
-/// Where the rows of the grouping set at an index have what they show. There is a grouping set at the index.
+/// Where the rows of the grouping set at an index have what they show. There is a grouping set at
+/// the index.
 ///
 /// Example: of two lists, `sources_at(sources, 1)` is the second one.
 pub fn sources_at(sources: &[Vec<ValueSource>], index: usize) -> &[ValueSource]

@@ -1,8 +1,10 @@
 //! Which keys of ORDER BY stand in the codes of rows.
 //!
-//! A key that has the values of an earlier key tells no rows apart that the earlier one does not. A code ends with the
-//! values of the group's key: where there is one grouping set, keys that say the same as the first of these values need
-//! not stand in front of them. The order is the same without either.
+//! A key that has the values of an earlier key tells no rows apart that the earlier one does not. A
+//! code ends with the values of the group's key: where there is one grouping set, keys that say the
+//! same as the first of these values need not stand in front of them. The order is the same without
+//! either.
+
 ghost use Rattle.std.specs.Prelude.{◌≡◌, ◌<◌, ℕ, true, false, IfOk, OnOk, map};
 ghost use Rattle.values.specs.Datum.{datum_of};
 ghost use Rattle.query_ast.specs.Syntax.{key_form};
@@ -16,10 +18,11 @@ use query_typecheck::key_expression;
 use std::alloc::{AllocError, Global};
 use values::Value;
 
-/// The keys of ORDER BY that stand in codes, in their order. With several grouping sets the last keys do, whatever they
-/// say, since the index of a set stands in front of the group's key.
+/// The keys of ORDER BY that stand in codes, in their order. With several grouping sets the last
+/// keys do, whatever they say, since the index of a set stands in front of the group's key.
 ///
-/// Example: under GROUP BY a, b none does for ORDER BY a, b, and one for ORDER BY COUNT(*) DESC, COUNT(*), a.
+/// Example: under GROUP BY a, b none does for ORDER BY a, b, and one for ORDER BY COUNT(*) DESC,
+/// COUNT(*), a.
 pub(crate) fn coded_keys<'p>(
     alloc: Global,
     plan: &'p PlanView<'_>,
@@ -55,8 +58,8 @@ fn telling_keys<'p>(alloc: Global, plan: &'p PlanView<'_>) -> Result<Vec<CodedKe
     Ok(kept)
 }
 
-/// Puts a key of ORDER BY, for which rows have their values at these sources, behind others, unless it has the values
-/// of one of them.
+/// Puts a key of ORDER BY, for which rows have their values at these sources, behind others, unless
+/// it has the values of one of them.
 fn keep_key<'p>(
     kept: &mut Vec<CodedKey<'p>>,
     key: &'p Key,
@@ -142,8 +145,8 @@ fn is_always(value: &Value, source: &ValueSource) -> bool
 
 // ---- keys that say what the group's key says
 
-/// How many keys are left without the last ones that are the beginning of the default order of one grouping set: as few
-/// as can be.
+/// How many keys are left without the last ones that are the beginning of the default order of one
+/// grouping set: as few as can be.
 fn keys_in_front(keys: &[CodedKey<'_>]) -> usize
     ensures behind { are_default_behind result (map coded_form keys.now) ≡ true }
     ensures fewest { (n : ℕ) → n < result
@@ -169,8 +172,8 @@ fn are_default(keys: &[CodedKey<'_>]) -> bool
     true
 }
 
-/// Whether a key ascends with NULL last, and the rows of the first grouping set have its value at a place of a group's
-/// key.
+/// Whether a key ascends with NULL last, and the rows of the first grouping set have its value at a
+/// place of a group's key.
 fn is_default_at(place: usize, coded: &CodedKey<'_>) -> bool
     ensures { result ≡ is_default_at place (coded_form coded.now) }
 {

@@ -1,4 +1,5 @@
 //! A plan as the rows of a report are shown under it.
+
 ghost use Rattle.std.specs.Prelude.{◌≡◌};
 ghost use Rattle.semantics.specs.SetFunctions.{functions_of};
 ghost use Rattle.query_resolve.specs.Planning.{planned_forms};
@@ -9,7 +10,8 @@ use std::alloc::{AllocError, Global};
 use std::marker::Model;
 use values::Schema;
 
-/// A plan, and the different set functions of its query by their trees, which are looked up once for all rows.
+/// A plan, and the different set functions of its query by their trees, which are looked up once
+/// for all rows.
 ///
 /// Example: one view serves all calls of this crate that make one report.
 #[derive(Drop)]
@@ -41,7 +43,8 @@ impl<'a> PlanView<'a> {
 
     /// The view of a plan.
     ///
-    /// Example: `PlanView::new(alloc, &plan)?` is asked for once, before the groups are put in order.
+    /// Example: `PlanView::new(alloc, &plan)?` is asked for once, before the groups are put in
+    /// order.
     ///
     /// # Errors
     ///
@@ -75,7 +78,8 @@ impl<'a> PlanView<'a> {
         self.plan.sets()
     }
 
-    /// The place of a set function among those of the plan; `None` where it has no such function. It takes no memory.
+    /// The place of a set function among those of the plan; `None` where it has no such function.
+    /// It takes no memory.
     pub(crate) fn function_place(&self, function: &SetFunction) -> Option<usize>
         ensures { result ≡ place_among self.now.fields self.now.query (function_form function.now) }
     {

@@ -11,8 +11,8 @@ use crate::schema_fault::SchemaFault;
 use crate::words_fault::WordsFault;
 use thiserror::Error;
 
-/// Why the program ends without what it was asked for. Its text is what the program says of it on standard error, but of
-/// words that `clap` refuses, whose text is that of `clap`.
+/// Why the program ends without what it was asked for. Its text is what the program says of it on
+/// standard error, but of words that `clap` refuses, whose text is that of `clap`.
 ///
 /// Example: the text of `Ending::NotOpened` is `cannot open the file`, and its status is 3.
 #[derive(Debug, Drop, Error)]

@@ -1,7 +1,7 @@
 //! Set functions over columns by their places.
 
-/// A set function, apart from its FILTER, with the place of its column in the schema, from 0, ISO/IEC 9075-2
-/// `<set function specification>`.
+/// A set function, apart from its FILTER, with the place of its column in the schema, from 0,
+/// ISO/IEC 9075-2 `<set function specification>`.
 ///
 /// Example: under the columns `shop:text,cents:int` `SUM(cents)` is `Sum(1)`.
 #[derive(Clone, Copy, Debug, PartialEq, Eq)]
@@ -27,8 +27,8 @@ impl ColumnFunction {
 
     /// Whether the function, DISTINCT and the column are the same.
     ///
-    /// Example: `Sum(1)` is the same as `Sum(1)`, and not as `Sum(0)` or `Min(1)`; `Count(1)` is not the same as
-    /// `CountDistinct(1)`.
+    /// Example: `Sum(1)` is the same as `Sum(1)`, and not as `Sum(0)` or `Min(1)`; `Count(1)` is
+    /// not the same as `CountDistinct(1)`.
     pub fn is_same(self, other: ColumnFunction) -> bool
         ensures same { IsTrue result ↔ (self ≡ other) }
     {

@@ -1,8 +1,9 @@
-//! What the program means: the definitions that its promises cite, in `specs/`, and the plain types that they speak of.
+//! What the program means: the definitions that its promises cite, in `specs/`, and the plain types
+//! that they speak of.
 //!
 //! The definitions are mathematics over bytes, lists and numbers; nothing here runs but the small
-//! tables of truth values. Each file of `specs/` has one subject; `specs/Lib.antt` lists them in the
-//! order in which they are to be read.
+//! tables of truth values. Each file of `specs/` has one subject; `specs/Lib.antt` lists them in
+//! the order in which they are to be read.
 #![tactic(auto)]
 
 mod aggregate;

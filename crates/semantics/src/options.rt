@@ -1,10 +1,12 @@
 //! The numbers by which a run is done.
+
 ghost use Rattle.std.specs.Prelude.{◌≡◌, ◌≤◌, IsSome, IfSome};
 ghost use Rattle.semantics.specs.CommandLine.{AreInRange};
 ghost use Rattle.semantics.specs.Limits.{most_workers, max_piece_len};
 ghost use Rattle.semantics.specs.declared.options.TheConstants.{SHORTEST_ROUND, LONGEST_ROUND};
 
-/// The least bytes that a round may have: as many as hold a line that is too long and its line feed.
+/// The least bytes that a round may have: as many as hold a line that is too long and its line
+/// feed.
 pub const SHORTEST_ROUND: usize = 1_048_578;
 
 /// The most bytes that a round may have.
@@ -90,8 +92,8 @@ impl Options {
         self.workers
     }
 
-    /// How many bytes of the input are worked on at once, 1 to 67,108,864. A piece ends with a line,
-    /// and so it may be longer.
+    /// How many bytes of the input are worked on at once, 1 to 67,108,864. A piece ends with a
+    /// line, and so it may be longer.
     pub fn piece(&self) -> usize
         ensures value { result ≡ self.now.piece }
         ensures some_byte { 1 ≤ result }

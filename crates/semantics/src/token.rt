@@ -2,7 +2,8 @@
 
 use crate::text::Text;
 
-/// A reserved word, which is never a name unless it stands in double quotes. It may be spelled in any ASCII case.
+/// A reserved word, which is never a name unless it stands in double quotes. It may be spelled in
+/// any ASCII case.
 ///
 /// Example: `select`, `Select` and `SELECT` are one word, `Select`.
 #[derive(Clone, Copy, PartialEq, Eq)]
@@ -113,7 +114,8 @@ pub enum Token {
     Word(Word),
     /// A sign.
     Sign(Sign),
-    /// A name: a word that is not reserved, or a quoted name without its double quotes, a doubled one being one.
+    /// A name: a word that is not reserved, or a quoted name without its double quotes, a doubled
+    /// one being one.
     Name(Text),
     /// A whole number of 64 bits, from -2^63 to 2^63-1.
     Integer(i64),

@@ -18,8 +18,8 @@ pub enum Truth {
 impl Truth {
     ghost use Rattle.semantics.specs.Truth.{conjunction, disjunction, negation};
 
-    /// `self AND other`, by the truth table of AND (ISO/IEC 9075-2, `<search condition>`): False where
-    /// either is False, True where both are True, and else Unknown.
+    /// `self AND other`, by the truth table of AND (ISO/IEC 9075-2, `<search condition>`): False
+    /// where either is False, True where both are True, and else Unknown.
     ///
     /// Example: `Truth::True.and(Truth::Unknown)` answers `Unknown`.
     pub fn and(self, other: Truth) -> Truth
@@ -46,8 +46,8 @@ impl Truth {
         }
     }
 
-    /// `NOT self`, by the truth table of NOT (ISO/IEC 9075-2, `<search condition>`): True and False are
-    /// exchanged, and Unknown stays.
+    /// `NOT self`, by the truth table of NOT (ISO/IEC 9075-2, `<search condition>`): True and False
+    /// are exchanged, and Unknown stays.
     ///
     /// Example: `Truth::Unknown.not()` answers `Unknown`.
     pub fn not(self) -> Truth

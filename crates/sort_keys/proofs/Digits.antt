@@ -11,7 +11,8 @@ one_digit m n (suc i) [] = let same : 256 * m ≡ 256 * m + 0 = omega arith in a
 one_digit m n zero (b ∷ s) = refl
 one_digit m n (suc i) (b ∷ s) = one_digit m n i s
 
--- sixteen bytes as one number, the first one highest, are the digits of a code that has these bytes, and zeros where it has none
+-- sixteen bytes as one number, the first one highest, are the digits of a code that has these
+-- bytes, and zeros where it has none
 pub number-digits : (s bytes : List ℕ) → ((i : ℕ) → i < 16 → slice_index bytes i ≡ get_or s i 0) → from_be_bytes w128 bytes ≡ with_digits 0 16 s
 unfolding with_digits
 number-digits s bytes at =

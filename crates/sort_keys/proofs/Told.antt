@@ -1,4 +1,5 @@
--- How lists of numbers stand to each other where the first place in which they differ is in both of them.
+-- How lists of numbers stand to each other where the first place in which they differ is in both of
+-- them.
 use Rattle.std.proofs.Common.{◌≡◌, ◌⊎◌, inl, inr, ◌+◌, ◌-◌, ◌*◌, ◌<◌, ℕ, zero, suc, List, [], ◌∷◌, ◌++◌, drop, map, refl, sym, ap, subst, ◌∙◌, arith}
 use Rattle.std.specs.declared.cmp.Ordering.{Ordering}
 use Rattle.std.specs.declared.cmp.Ordering.TheVariants.{Less, Equal, Greater}
@@ -24,7 +25,8 @@ equal-is m = grind (arith, nat_tests)
 abbrev pub AreBytes : List ℕ → Type 0
 AreBytes s = AllByRecursion (λ b. b < 256) s
 
--- two lists are the same, or they differ in a place that is in both of them, and the numbers there stand so to each other
+-- two lists are the same, or they differ in a place that is in both of them, and the numbers there
+-- stand so to each other
 pub data Told : Ordering → List ℕ → List ℕ → Type 0 where
   alike : {s : List ℕ} → Told Equal s s
   less : {x y : ℕ} {s t : List ℕ} → x < y → Told Less (x ∷ s) (y ∷ t)

@@ -12,7 +12,8 @@ IsStorable (whole n) = IsCodable (whole n)
 IsStorable (text s) = ∥ IsUtf8 s ∥₁
 IsStorable null = ⊤
 
--- Where bytes begin with the code of a value, the front is this code, and the rest is what stands behind it.
+-- Where bytes begin with the code of a value, the front is this code, and the rest is what stands
+-- behind it.
 abbrev pub IsCodeSplit : List ℕ → List ℕ → List ℕ → Type 0
 IsCodeSplit code front rest = (d : Datum) (s : List ℕ) → IsStorable d → code ≡ value_code d ++ s → (front ≡ value_code d) × (rest ≡ s)
 

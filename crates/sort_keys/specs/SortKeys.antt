@@ -5,7 +5,8 @@ use Rattle.std.specs.Ordering.{nat_cmp, ordering_then}
 use Rattle.std.specs.Cmp.Lexicographic.{slice_cmp}
 use Rattle.sort_keys.specs.declared.sort_key.SortKey.{SortKey}
 
--- A number with so many digits to the base 256 behind its own: the first bytes of a list, and zeros behind a list that is shorter.
+-- A number with so many digits to the base 256 behind its own: the first bytes of a list, and zeros
+-- behind a list that is shorter.
 unfoldable pub with_digits : ℕ → ℕ → List ℕ → ℕ
 with_digits number zero s = number
 with_digits number (suc n) [] = with_digits (256 * number) n []
@@ -23,7 +24,8 @@ SortParts = ℕ × ℕ × List ℕ
 abbrev pub parts_of : List ℕ → SortParts
 parts_of code = (digits_of code, digits_of (drop 16 code), drop 32 code)
 
--- How two codes in parts stand to each other: as the first numbers, then as the second ones, and then as the rests, byte by byte.
+-- How two codes in parts stand to each other: as the first numbers, then as the second ones, and
+-- then as the rests, byte by byte.
 abbrev pub parts_order : SortParts → SortParts → Ordering
 parts_order a b = ordering_then (nat_cmp a.0 b.0) (ordering_then (nat_cmp a.1 b.1) (slice_cmp nat_cmp a.2 b.2))
 

@@ -1,4 +1,5 @@
 //! Codes, put behind other bytes.
+
 ghost use Rattle.std.specs.Prelude.{◌≡◌, [], ◌∷◌, ◌++◌, ◌<◌, ◌^◌, suc, OnOk, map};
 ghost use Rattle.std.specs.Int.{bytes_high_first};
 ghost use Rattle.std.specs.List.{AllByRecursion};
@@ -124,7 +125,8 @@ fn put_text(code: &mut Vec<u8>, string: &str) -> Result<(), AllocError>
     put_byte(code, TEXT_END)
 }
 
-/// Makes each of these bytes greater by one. None of them is the greatest byte, which `NULL_LAST` is.
+/// Makes each of these bytes greater by one. None of them is the greatest byte, which `NULL_LAST`
+/// is.
 fn raise(bytes: &mut [u8])
     requires { AllByRecursion (λ b. b < NULL_LAST) bytes.old }
     ensures { bytes.new ≡ map suc bytes.old }

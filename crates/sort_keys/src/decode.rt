@@ -1,4 +1,5 @@
 //! Values, read from their codes.
+
 ghost use Rattle.std.specs.Prelude.{◌≡◌, ◌-◌, ◌<◌, ◌≤◌, ◌≤ℤ◌, pos, IfOk, length, map};
 ghost use Rattle.values.specs.Datum.{data_of, datum_of};
 ghost use Rattle.sort_keys.specs.Decoding.{AreDecoded};
@@ -9,8 +10,8 @@ use crate::split::text_len;
 use std::alloc::{AllocError, Global};
 use values::Value;
 
-/// The values whose codes stand one after the other, in a list with room for so many from the start. Of bytes that are no
-/// codes the values are any.
+/// The values whose codes stand one after the other, in a list with room for so many from the
+/// start. Of bytes that are no codes the values are any.
 ///
 /// Example: of the bytes 2, 6, 98 and 0 they are True and the text `a`.
 ///
@@ -63,7 +64,8 @@ fn split_number(code: &[u8]) -> (Value, &[u8])
     }
 }
 
-/// The number that is so far above the least one as the 16 bytes say which stand in front of others, and these.
+/// The number that is so far above the least one as the 16 bytes say which stand in front of
+/// others, and these.
 fn split_wide(code: &[u8], least: i128) -> (Value, &[u8])
     requires { least ≤ℤ pos 0 }
     ensures value { IsWideSplit least code.now (datum_of result.0) result.1.now }

@@ -1,4 +1,5 @@
 //! Codes as a sort has them at hand.
+
 ghost use Rattle.std.specs.Prelude.{◌≡◌, drop};
 ghost use Rattle.sort_keys.specs.SortKeys.{digits_of};
 ghost use Rattle.sort_keys.specs.declared.sort_key.TheConstants.{NUMBER_BYTES};
@@ -22,7 +23,8 @@ pub struct SortKey {
     rest: Vec<u8>,
 }
 
-/// The first bytes of a code as the digits of one number, the first one highest, with zeros behind a shorter code.
+/// The first bytes of a code as the digits of one number, the first one highest, with zeros behind
+/// a shorter code.
 fn digits_of(code: &[u8]) -> u128
     ensures { result ≡ digits_of code.now }
 {
@@ -75,12 +77,12 @@ impl SortKey {
         })
     }
 
-    /// How two keys stand to each other: as the first 32 bytes of their codes, with zeros behind a shorter one, and then
-    /// as the bytes behind these, one by one.
+    /// How two keys stand to each other: as the first 32 bytes of their codes, with zeros behind a
+    /// shorter one, and then as the bytes behind these, one by one.
     ///
-    /// So the codes 1 and 1 0 are the same here. No code of a value is the beginning of another one (`codes_law`), so
-    /// the codes of equally many values are never such. Where neither of two codes is the beginning of the other, this
-    /// is their order byte by byte (`parts_law`).
+    /// So the codes 1 and 1 0 are the same here. No code of a value is the beginning of another one
+    /// (`codes_law`), so the codes of equally many values are never such. Where neither of two
+    /// codes is the beginning of the other, this is their order byte by byte (`parts_law`).
     ///
     /// Example: the key of the bytes 1 and 2 is before that of the byte 3.
     pub fn compare(&self, other: &SortKey) -> Ordering

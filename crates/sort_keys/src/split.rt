@@ -1,4 +1,5 @@
 //! Codes, parted from the bytes behind them.
+
 ghost use Rattle.std.specs.Prelude.{◌≡◌, ◌==◌, ◌<◌, ◌++◌, Some, IfSome, length, position};
 ghost use Rattle.sort_keys.specs.Inside.Decoding.{IsCodeLength};
 ghost use Rattle.sort_keys.specs.Decoding.{IsCodeSplit};
@@ -15,8 +16,8 @@ const WIDE_LEN: usize = 17;
 /// Among how many bytes the end of a text is looked for first.
 const SHORT: usize = 16;
 
-/// The code of the value that stands in front of other bytes, and these. Bytes that begin with no code are parted somewhere
-/// behind the first one.
+/// The code of the value that stands in front of other bytes, and these. Bytes that begin with no
+/// code are parted somewhere behind the first one.
 ///
 /// Example: of the bytes 6, 98, 0 and 2 they are 6, 98 and 0, the code of the text `a`, and 2.
 #[inline]
@@ -61,7 +62,8 @@ pub(crate) fn text_len(code: &[u8]) -> Option<usize>
     }
 }
 
-/// The same, where the end is among the first bytes. Their number is fixed, so that none is counted.
+/// The same, where the end is among the first bytes. Their number is fixed, so that none is
+/// counted.
 #[inline]
 fn short_text_len(code: &[u8]) -> Option<usize>
     ensures { IfSome result (λ len. position (λ b. b == 0) code.now ≡ Some len) }

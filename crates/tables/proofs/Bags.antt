@@ -1,4 +1,5 @@
--- What holds of each thing of a list: of lists made from others, and of lists that are the same bag.
+-- What holds of each thing of a list: of lists made from others, and of lists that are the same
+-- bag.
 use Rattle.std.proofs.Common.{◌≡◌, ◌+◌, ℕ, Bool, true, false, not, cond, List, [], ◌∷◌, ◌++◌, map, Option, Some, None, unwrap_or, refl, sym, ◌∙◌, sum_by, arith}
 use Rattle.std.proofs.lemmas.List.Sums.{sum_by-cons}
 use Rattle.std.specs.Bool.{Decides}

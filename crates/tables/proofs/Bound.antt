@@ -49,7 +49,8 @@ each-bound fields filters (f ∷ fs) e =
     let more = each-bound fields filters fs (rest _ _ _ _ e) in
     λ i. record { function = f.function; filter = this i } ∷ more i
 
--- where the index of each function leads to its filter, the functions by their indexes are those of the query
+-- where the index of each function leads to its filter, the functions by their indexes are those of
+-- the query
 pub bound-functions : (plan : PlannedQuery) → map (aggregate_of (filter_tests plan)) (indexed_functions plan.fields plan.query) ≡ aggregate_functions plan.fields plan.query
 bound-functions plan = each-bound plan.fields (filters_of plan.fields plan.query) (functions_of plan.fields plan.query) (indexes_lead_back plan.fields plan.query)
 

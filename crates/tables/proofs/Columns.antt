@@ -1,4 +1,5 @@
--- The places of a query's grouping columns, and those that its set functions take, are places of columns.
+-- The places of a query's grouping columns, and those that its set functions take, are places of
+-- columns.
 use Rattle.std.proofs.Common.{◌≡◌, ◌==◌, ◌<◌, ℕ, List, [], length, Option, Some, None, refl, subst, arith}
 use Rattle.std.proofs.lemmas.List.{length-map}
 use Rattle.std.proofs.lemmas.List.Quantifiers.{position-Some}

@@ -1,4 +1,5 @@
--- The definitions, computed on examples: an input is the line `a` and, read behind it, the lines `b` and `c`.
+-- The definitions, computed on examples: an input is the line `a` and, read behind it, the lines
+-- `b` and `c`.
 use Rattle.std.proofs.Common.{◌≡◌, ℕ, List, [], ◌∷◌, refl, codes}
 use Rattle.lines.specs.declared.pieces.Piece.{Piece}
 use Rattle.semantics.specs.Order.{sorted_by}

@@ -17,7 +17,8 @@ use Rattle.tables.specs.Inside.Sets.{AreGroupsOfSet}
 abbrev pub set_groups : List Record → ℕ × List ℕ → List SetGroup
 set_groups rows s = map (λ key. record { index = s.0; key = key; members = members s.1 key rows }) (keys s.1 rows)
 
--- the rows of one grouping set weigh what the summaries of its groups weigh, beside the index of the set
+-- the rows of one grouping set weigh what the summaries of its groups weigh, beside the index of
+-- the set
 sum-of_set : (f : ResultRow → ℕ) (n : ℕ) (set : List ℕ) (fs : List AggregateFunction) (rows : List Record)
     → sum_by f (map (row_of_group fs) (set_groups rows (n, set))) ≡ sum_by (λ r. f (n, r)) (group_summaries set fs rows)
 sum-of_set f n set fs rows =
@@ -79,7 +80,8 @@ same-from f fs rows others same n (set ∷ sets) =
     let d = same-from f fs rows others same (n + 1) sets in
     omega (arith, a, b, c, d)
 
--- where under each set the summaries of the groups of two lists of records are the same, so are the rows of all groups
+-- where under each set the summaries of the groups of two lists of records are the same, so are the
+-- rows of all groups
 pub found-same : (fs : List AggregateFunction) (rows others : List Record) → ((set : List ℕ) → SameBag (group_summaries set fs rows) (group_summaries set fs others))
     → (sets : List (List ℕ)) → SameBag (rows_of_groups sets fs rows) (rows_of_groups sets fs others)
 found-same fs rows others same sets = λ f. same-from f fs rows others same 0 sets

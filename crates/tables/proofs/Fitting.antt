@@ -104,7 +104,8 @@ module _ (fields : List Field) (functions : List FilteredFunction) where
       (all-later n (n + 1) gs.items later (omega arith) (from-index (n + 1) (n + 1) groups (omega arith)))
 
   module _ (whole : List (List ℕ)) where
-    -- the index of a row is that of a set, and its key and its cells have the types of the set and of the functions
+    -- the index of a row is that of a set, and its key and its cells have the types of the set and
+    -- of the functions
     abbrev Fits : ResultRow → Type 0
     Fits row = (row.0 < length whole) × IsKeyOf fields (slice_index_or whole row.0 []) row.1.key × HaveTypes row.1.cells
 

@@ -95,7 +95,8 @@ weight-at index f fs rows n (set ∷ sets) (suc place) few e =
     let rest = weight-at index f fs rows (n + 1) sets place (omega (arith, few)) (omega (arith, e)) in
     omega (arith, first, rest)
 
--- Each record is a member of one group of a set, and the numbers of members of its groups add up to that of the records.
+-- Each record is a member of one group of a set, and the numbers of members of its groups add up to
+-- that of the records.
 pub record AreParted : Type 0 where
   pub members : (set : List ℕ) (rows : List Record) → SameBag (flat_map (λ key. members set key rows) (keys set rows)) rows
   pub lines : (set : List ℕ) (fs : List AggregateFunction) (rows : List Record) → sum_by (λ group. group.lines) (group_summaries set fs rows) ≡ length rows

@@ -79,7 +79,8 @@ numbered-behind fields front (p ∷ more) whole e b up =
     ∙ ap (λ ls. map (shift (length (all_lines (pieces_before p.index whole)))) (refused_lines fields p.bytes) ++ ls)
     (numbered-behind fields (front ++ p ∷ []) more whole (e ∙ sym (append_assoc front (p ∷ []) more)) (below-tail front p more b up.0) up.1)
 
--- numbered one piece after the other, each refused line has its number by the pieces with a smaller index
+-- numbered one piece after the other, each refused line has its number by the pieces with a smaller
+-- index
 numbered-rising : (fields : List Field) (pieces : List IndexedPiece) → Rises index_of pieces → refused_lines_from 0 (map (note_of fields) pieces) ≡ refused_lines_numbered fields pieces
 numbered-rising fields pieces rise = numbered-behind fields [] pieces pieces refl tt rise
 

@@ -179,7 +179,8 @@ read-err plan before old new seen line fault e h stay same one more = record {
 
 -- ---- records behind those of earlier pieces
 
--- the records that are kept, of earlier ones and of these lines, are no more than the earlier ones and the lines
+-- the records that are kept, of earlier ones and of these lines, are no more than the earlier ones
+-- and the lines
 pub length-kept_behind : (plan : PlannedQuery) (before : List Record) (ls : List (List ℕ)) → length (kept_records plan.fields plan.query (before ++ valid_records_of plan.fields ls)) ≤ length before + length ls
 length-kept_behind plan before ls =
     let few = length-kept plan (before ++ valid_records_of plan.fields ls) in

@@ -183,7 +183,8 @@ stands-new sets item roll within is set = λ i other at.
     subst (λ (n : ℕ). (n < length sets) × ((slice_index_or sets n other).items ≡ roll.set.items)) (same_Some roll.index i at)
     (within, ap (λ (v : Vec ℕ Global). v.items) (sym (get_or_read sets roll.index item within is other)) ∙ sym set)
 
--- where all sets below an index wait but one, and the set at the index waits or is that one, so do all up to it
+-- where all sets below an index wait but one, and the set at the index waits or is that one, so do
+-- all up to it
 pub all-more : (made : Option ℕ) (index : ℕ) (olds news : List ListedSet) → ((i : ℕ) → i < index → NoneHasIndex i olds → made ≡ Some i)
     → ((i : ℕ) → NoneHasIndex i news → NoneHasIndex i olds) → (NoneHasIndex index news → made ≡ Some index)
     → (i : ℕ) → i < index + 1 → NoneHasIndex i news → made ≡ Some i

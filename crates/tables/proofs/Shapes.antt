@@ -106,7 +106,8 @@ index-Decides None (Some n) = (λ h. cc, λ h. cc)
 index-Decides (Some m) None = (λ h. cc, λ h. cc)
 index-Decides (Some m) (Some n) = (λ h. ap Some ((Decides-eqb m n).0 h), λ h. (Decides-eqb m n).1 cc)
 
--- `==` of two set functions with the indexes of their filters is true exactly where they are the same
+-- `==` of two set functions with the indexes of their filters is true exactly where they are the
+-- same
 filtered-Decides : (f g : FilteredFunction) → Decides (filtered.eq-value.it f g) (f ≡ g)
 filtered-Decides f g =
     let h = Decides-and _ _ (function-Decides f.function g.function) (index-Decides f.filter g.filter) in

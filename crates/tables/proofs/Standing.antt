@@ -20,7 +20,8 @@ use Rattle.tables.specs.Pieces.{IndexedPiece, all_lines, records_of, refused_lin
 use Rattle.tables.specs.States.{PartialState}
 use Rattle.tables.specs.contracts.partial.Partial as partial
 
--- the table is that of the pieces' records, the numbers are those of their lines, and the notes, in whatever order, are those of the pieces
+-- the table is that of the pieces' records, the numbers are those of their lines, and the notes, in
+-- whatever order, are those of the pieces
 pub record Has (plan : PlannedQuery) (partial : PartialState) (listed : List Noted) (pieces : List IndexedPiece) : Type 0 where
   pub sets : partial.sets ≡ sets_of plan.fields plan.query
   pub functions : partial.functions ≡ indexed_functions plan.fields plan.query

@@ -1,4 +1,5 @@
--- The walk over the tables of grouping sets: each set waits for its table, has one that is there, or has its groups.
+-- The walk over the tables of grouping sets: each set waits for its table, has one that is there,
+-- or has its groups.
 use Rattle.std.proofs.Common.{◌≡◌, ◌≢◌, ◌==◌, ◌⊎◌, ◌<◌, ◌+◌, ℕ, suc, Option, Some, None, true, false, inl, inr, List, [], ◌∷◌, ◌++◌, All, Vec, Global, length, slice_index_or, refl, sym, ap, subst, ◌∙◌, arith, append_assoc}
 use Rattle.std.proofs.lemmas.List.{length-append, length-map, map-append, map_push}
 use Rattle.std.proofs.lemmas.List.Elements.{All-head, All-push}
@@ -78,7 +79,8 @@ HasGroupsAt grouping functions finest sets groups index =
     (property : Property) (set : Vec ℕ Global) (of_set : Vec Group Global) → HasProperty property grouping functions finest
     → AreGroupsWith property functions (slice_index_or sets index set).items (slice_index_or groups index of_set).items
 
--- How far the walk has come. The tables that are left are of the records; each set that waits has a finer one among theirs; each set that neither waits nor has a table has its groups.
+-- How far the walk has come. The tables that are left are of the records; each set that waits has a
+-- finer one among theirs; each set that neither waits nor has a table has its groups.
 pub record IsUnderWay (grouping : List ℕ) (functions : List FilteredFunction) (finest : Contents) (sets : List (Vec ℕ Global)) (waiting : List Roll) (tables : List SetTable) (groups : List (Vec Group Global)) : Type 0 where
   pub tables_are : AreRollsOf grouping functions finest tables
   pub finer : HaveFiner waiting (sets_of_tables tables)

@@ -13,25 +13,26 @@ use Rattle.tables.specs.declared.contents.PartialContents.{PartialContents}
 use Rattle.tables.specs.Partials.{HaveOneShape, note_of_one}
 use Rattle.tables.specs.States.{PartialState}
 
--- those that a value of the code is
+-- Those that a value of the code is.
 abbrev pub contents_of : PartialContents → ContentsForm
 contents_of contents = record { lines = contents.lines; refused = contents.refused.items; groups = entries_of contents.groups.items }
 
 -- ---- a partial result that is put together
 
--- the groups of a partial result, by ascending keys
+-- The groups of a partial result, by ascending keys.
 abbrev pub groups_in : PartialState → List EntryForm
 groups_in partial = table_entries partial.table
 
--- they have at most so many members together
+-- They have at most so many members together.
 abbrev pub HasMembersWithin : ℕ → PartialState → Type 0
 HasMembersWithin most partial = IsCounted most partial.functions partial.table
 
--- with so many members more they have at most as many as there are lines
+-- With so many members more they have at most as many as there are lines.
 abbrev pub HasRoomFor : ℕ → PartialState → Type 0
 HasRoomFor members partial = (most : ℕ) × HasMembersWithin most partial × (most + members ≤ partial.lines)
 
--- a partial result has so many lines, these refused ones, and the note of one piece, of index 0, that has them
+-- a partial result has so many lines, these refused ones, and the note of one piece, of index 0,
+-- that has them
 pub record HasRefusals (count : ℕ) (faults : List (ℕ × LineFault)) (partial : PartialState) : Type 0 where
   pub lines : partial.lines ≡ count
   pub refused : partial.refused ≡ length faults

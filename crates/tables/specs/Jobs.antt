@@ -11,23 +11,24 @@ use Rattle.tables.specs.declared.job.Job.{Job}
 use Rattle.tables.specs.declared.job.JobBy.{JobBy}
 use Rattle.group_tables.specs.declared.executor.Executor as Executor
 
--- the plan whose query is answered
+-- The plan whose query is answered.
 abbrev pub plan_of_job : Job → PlannedQuery
 plan_of_job job = job.plan.now
 
--- the input, of which the job has the pieces
+-- The input, of which the job has the pieces.
 abbrev pub input_of_job : Job → List ℕ
 input_of_job job = job.input.now
 
--- where the pieces of the input start and stop
+-- Where the pieces of the input start and stop.
 abbrev pub pieces_of_job : Job → List Piece
 pieces_of_job job = job.pieces.now
 
--- what so many pieces come to, put together one after the other
+-- What so many pieces come to, put together one after the other.
 abbrev pub total_of : PlannedQuery → (ℕ → IndexedPiece) → ℕ → PartialState
 total_of plan piece count = total (none plan) both (λ i. of_piece plan (piece i)) count
 
--- what a fold over pieces combines, by their numbers: results of the plan, weighed by their refused lines, whose load is that of their lines
+-- What a fold over pieces combines, by their numbers: results of the plan, weighed by their refused
+-- lines, whose load is that of their lines
 abbrev pub reduction_of : PlannedQuery → (ℕ → IndexedPiece) → Reduction PartialState
 reduction_of plan piece = record {
   fits = λ partial. (pieces : List IndexedPiece) × StandsFor plan partial pieces;
@@ -38,20 +39,20 @@ reduction_of plan piece = record {
   load = λ partial. partial.lines;
 }
 
--- so over the job's pieces
+-- So over the job's pieces.
 abbrev pub reduction_of_job : Job → Reduction PartialState
 reduction_of_job job = reduction_of (plan_of_job job) (piece_at (input_of_job job) (pieces_of_job job))
 
--- so where the job's first piece has the index `first`
+-- So where the job's first piece has the index `first`.
 abbrev pub reduction_of_job_from : ℕ → Job → Reduction PartialState
 reduction_of_job_from first job = reduction_of (plan_of_job job) (piece_from first (input_of_job job) (pieces_of_job job))
 
 -- ---- a job whose results an executor merges
 
--- the job
+-- The job
 abbrev pub joined_job : {J : Type 0} {executor : Executor.Ghosts J} → JobBy J executor → Job
 joined_job it = it.job
 
--- the index of its first piece
+-- The index of its first piece.
 abbrev pub first_of_job : {J : Type 0} {executor : Executor.Ghosts J} → JobBy J executor → ℕ
 first_of_job it = it.first

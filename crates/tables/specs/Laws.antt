@@ -1,4 +1,5 @@
--- What pieces come to keeps the laws of a work. What is proved here stands beside the definitions since a job cites it.
+-- What pieces come to keeps the laws of a work. What is proved here stands beside the definitions
+-- since a job cites it.
 use Rattle.std.proofs.Common.{◌≡◌, ◌+◌, ◌≤◌, ℕ, List, ◌∷◌, ◌++◌, zero, suc, length, map, filter_map, option_map, Result, Ok, Err, refl, sym, ap, ◌∙◌, arith, append_assoc, length-append, []}
 use Rattle.std.proofs.lemmas.List.Sums.{sum_by-append}
 use Rattle.std.proofs.lemmas.Grind.{flat_map-append}
@@ -70,7 +71,7 @@ fault_of (suc zero) = NoJson
 fault_of (suc (suc zero)) = NoObject
 fault_of (suc (suc (suc column))) = BadValue column
 
--- of each fault its number tells it
+-- Of each fault its number tells it.
 fault-told : (fault : LineFault) → fault_of (fault_number fault) ≡ fault
 fault-told TooLong = refl
 fault-told NoJson = refl
@@ -186,7 +187,7 @@ both-assoc plan xs ys zs =
 
 -- ---- the laws of a work
 
--- pieces have at most as many refused lines as lines
+-- Pieces have at most as many refused lines as lines.
 few-refused : (fields : List Field) (pieces : List IndexedPiece) → length (refused_lines_within fields pieces) ≤ length (all_lines pieces)
 few-refused fields [] = omega arith
 few-refused fields (p ∷ pieces) =
@@ -197,7 +198,7 @@ few-refused fields (p ∷ pieces) =
     let b = length-append (lines p.bytes) (all_lines pieces) in
     omega (arith, more, here, many, a, b)
 
--- whatever the pieces are, by their numbers
+-- Whatever the pieces are, by their numbers.
 pub results_lawful : (plan : PlannedQuery) (piece : ℕ → IndexedPiece) → Lawful (reduction_of plan piece)
 results_lawful plan piece = record {
   unit_fits = ([], refl);

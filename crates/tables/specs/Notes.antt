@@ -13,13 +13,13 @@ use Rattle.semantics.specs.Records.{refused_lines}
 use Rattle.tables.specs.declared.piece_refusals.PieceRefusals.{PieceRefusals}
 use Rattle.tables.specs.Pieces.{IndexedPiece}
 
--- the piece's index, the number of its lines, and its refused lines by their numbers within it
+-- The piece's index, the number of its lines, and its refused lines by their numbers within it.
 pub record Noted : Type 0 where
   pub index : ℕ
   pub lines : ℕ
   pub refused : List (ℕ × LineFault)
 
--- the note of a piece
+-- The note of a piece.
 abbrev pub note_of : List Field → IndexedPiece → Noted
 note_of fields piece = record { index = piece.index; lines = length (lines piece.bytes); refused = refused_lines fields piece.bytes }
 
@@ -32,11 +32,12 @@ fault_number NoJson = 1
 fault_number NoObject = 2
 fault_number (BadValue column) = suc (suc (suc column))
 
--- how two refused lines stand to each other: by their numbers, and of one number by their faults
+-- How two refused lines stand to each other: by their numbers, and of one number by their faults.
 abbrev pub line_order : ℕ × LineFault → ℕ × LineFault → Ordering
 line_order l m = ordering_then (nat_cmp l.0 m.0) (nat_cmp (fault_number l.1) (fault_number m.1))
 
--- how two notes stand to each other: by their indexes, and of one index by all else, so that a note ties with itself alone
+-- How two notes stand to each other: by their indexes, and of one index by all else, so that a note
+-- ties with itself alone
 abbrev pub note_order : Noted → Noted → Ordering
 note_order a b = ordering_then (nat_cmp a.index b.index) (ordering_then (nat_cmp a.lines b.lines) (slice_cmp line_order a.refused b.refused))
 
@@ -46,15 +47,16 @@ note_in note = record { index = note.index; lines = note.lines; refused = note.r
 abbrev pub notes_in : Vec PieceRefusals → List Noted
 notes_in notes = map note_in notes.items
 
--- all lines that the notes count
+-- All lines that the notes count.
 abbrev pub line_count : List Noted → ℕ
 line_count notes = sum_by (λ note. note.lines) notes
 
--- no refused line has a number above that of the piece's lines
+-- No refused line has a number above that of the piece's lines.
 abbrev pub IsWellNumbered : Noted → Type 0
 IsWellNumbered note = All (λ line. line.0 ≤ note.lines) note.refused
 
--- the refused lines of the notes, in their order, each by its number within its piece and the lines that are counted before
+-- The refused lines of the notes, in their order, each by its number within its piece and the lines
+-- that are counted before
 abbrev pub refused_lines_from : ℕ → List Noted → List (ℕ × LineFault)
 refused_lines_from before [] = []
 refused_lines_from before (note ∷ notes) = map (λ line. (before + line.0, line.1)) note.refused ++ refused_lines_from (before + note.lines) notes

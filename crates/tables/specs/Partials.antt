@@ -1,6 +1,8 @@
--- What a partial result is: what pieces of an input come to, and what two of them come to together. Of one query partial results are a commutative monoid by `both`,
--- with `none` as its unit; and the result of some pieces and more pieces is `both` of their results (`pieces_law`). So it does not matter which thread, round or machine
--- made a result of which pieces, nor in which order they were put together.
+-- What a partial result is: what pieces of an input come to, and what two of them come to together.
+-- Of one query partial results are a commutative monoid by `both`, with `none` as its unit; and the
+-- result of some pieces and more pieces is `both` of their results (`pieces_law`). So it does not
+-- matter which thread, round or machine made a result of which pieces, nor in which order they were
+-- put together.
 use Rattle.std.specs.Prelude.{◌≡◌, ◌+◌, ℕ, suc, zero, List, ◌∷◌, ◌++◌, length, map, nat_eq, []}
 use Rattle.std.specs.List.{IsDistinct}
 use Rattle.semantics.specs.declared.line_fault.LineFault.{LineFault}
@@ -21,8 +23,9 @@ use Rattle.tables.specs.States.{GroupsState, PartialState}
 
 -- ---- of pieces
 
--- what pieces come to, in whatever order: the grouping sets, the set functions and the filters of the query, the table of all grouping columns over the valid records of
--- all lines of the pieces that WHERE keeps, the numbers of all lines and of all refused lines, and the note of each piece
+-- What pieces come to, in whatever order: the grouping sets, the set functions and the filters of
+-- the query, the table of all grouping columns over the valid records of all lines of the pieces
+-- that WHERE keeps, the numbers of all lines and of all refused lines, and the note of each piece
 abbrev pub of_pieces : PlannedQuery → List IndexedPiece → PartialState
 of_pieces plan pieces = record {
   sets = sets_of plan.fields plan.query;
@@ -34,11 +37,11 @@ of_pieces plan pieces = record {
   notes = sorted_by note_order (map (note_of plan.fields) pieces);
 }
 
--- what no pieces come to
+-- What no pieces come to.
 abbrev pub none : PlannedQuery → PartialState
 none plan = of_pieces plan []
 
--- what one piece comes to
+-- What one piece comes to.
 abbrev pub of_piece : PlannedQuery → IndexedPiece → PartialState
 of_piece plan piece = of_pieces plan (piece ∷ [])
 
@@ -46,11 +49,11 @@ of_piece plan piece = of_pieces plan (piece ∷ [])
 abbrev pub StandsFor : PlannedQuery → PartialState → List IndexedPiece → Type 0
 StandsFor plan partial pieces = partial ≡ of_pieces plan pieces
 
--- it stands for some pieces
+-- It stands for some pieces.
 abbrev pub IsPartialOf : PlannedQuery → PartialState → Type 0
 IsPartialOf plan partial = ∥ ((pieces : List IndexedPiece) × StandsFor plan partial pieces) ∥₁
 
--- it stands for an input: for pieces that the input is cut into
+-- It stands for an input: for pieces that the input is cut into.
 pub record StandsForInput (plan : PlannedQuery) (partial : PartialState) (input : List ℕ) : Type 0 where
   pub pieces : List IndexedPiece
   pub stands : StandsFor plan partial pieces
@@ -58,13 +61,15 @@ pub record StandsForInput (plan : PlannedQuery) (partial : PartialState) (input 
 
 -- ---- of two
 
--- two partial results have one shape where their grouping sets, set functions and filters are the same
+-- Two partial results have one shape where their grouping sets, set functions and filters are the
+-- same
 pub record HaveOneShape (partial other : PartialState) : Type 0 where
   pub sets : partial.sets ≡ other.sets
   pub functions : partial.functions ≡ other.functions
   pub filters : partial.filters ≡ other.filters
 
--- what two of one shape come to together: at each key of their tables what both keep, all lines, all refused lines, and the notes of both
+-- What two of one shape come to together: at each key of their tables what both keep, all lines,
+-- all refused lines, and the notes of both
 abbrev pub both : PartialState → PartialState → PartialState
 both first second = record {
   sets = first.sets;
@@ -78,24 +83,24 @@ both first second = record {
 
 -- ---- as one piece
 
--- no two of its pieces have one index
+-- No two of its pieces have one index.
 abbrev pub HasOwnIndexes : PartialState → Type 0
 HasOwnIndexes partial = IsDistinct nat_eq (map (λ note. note.index) partial.notes)
 
--- the refused lines of its pieces, each by its number among the lines of all pieces
+-- The refused lines of its pieces, each by its number among the lines of all pieces.
 abbrev pub numbered_lines : PartialState → List (ℕ × LineFault)
 numbered_lines partial = refused_lines_from 0 partial.notes
 
--- the note of so many lines as one piece, of index 0, with these refused ones
+-- The note of so many lines as one piece, of index 0, with these refused ones.
 abbrev pub note_of_one : ℕ → List (ℕ × LineFault) → Noted
 note_of_one lines refused = record { index = 0; lines = lines; refused = refused }
 
--- that note alone; of no line there is none
+-- That note alone; of no line there is none.
 abbrev pub notes_of_one : ℕ → List (ℕ × LineFault) → List Noted
 notes_of_one zero refused = []
 notes_of_one (suc more) refused = note_of_one (suc more) refused ∷ []
 
--- the same lines and groups as one piece, of index 0, whichever pieces they were cut into
+-- The same lines and groups as one piece, of index 0, whichever pieces they were cut into.
 abbrev pub as_one : PartialState → PartialState
 as_one partial = record {
   sets = partial.sets;
@@ -107,7 +112,8 @@ as_one partial = record {
   notes = notes_of_one partial.lines (numbered_lines partial);
 }
 
--- a front and the rest of an input as one piece: what both come to, where the refused lines of the rest are numbered behind all lines of the front
+-- a front and the rest of an input as one piece: what both come to, where the refused lines of the
+-- rest are numbered behind all lines of the front
 abbrev pub concatenation : PartialState → PartialState → PartialState
 concatenation front rest = record {
   sets = front.sets;
@@ -119,11 +125,11 @@ concatenation front rest = record {
   notes = note_of_one (front.lines + rest.lines) (numbered_lines front ++ map (λ line. (front.lines + line.0, line.1)) (numbered_lines rest)) ∷ [];
 }
 
--- the one piece that is the whole input
+-- The one piece that is the whole input.
 abbrev pub whole_piece : List ℕ → List IndexedPiece
 whole_piece input = record { index = 0; bytes = input } ∷ []
 
--- the one piece that an input is, of index 0; an input without a byte is none
+-- The one piece that an input is, of index 0; an input without a byte is none.
 abbrev pub one_piece : List ℕ → List IndexedPiece
 one_piece [] = []
 one_piece (byte ∷ bytes) = whole_piece (byte ∷ bytes)
@@ -137,11 +143,12 @@ pub record DiffersInNotes (before partial : PartialState) : Type 0 where
 
 -- ---- results
 
--- the rows are those of the groups that the query finds in a list of records
+-- The rows are those of the groups that the query finds in a list of records.
 abbrev pub GivesGroups : PlannedQuery → GroupsState → List Record → Type 0
 GivesGroups plan groups rows = SameBag groups.found (rows_before_having plan.fields plan.query rows)
 
--- the rows are those of the groups of the valid records of an input, and the refused lines are its refused lines
+-- The rows are those of the groups of the valid records of an input, and the refused lines are its
+-- refused lines
 pub record IsResultOf (plan : PlannedQuery) (groups : GroupsState) (input : List ℕ) : Type 0 where
   pub rows : GivesGroups plan groups (valid_records plan.fields input)
   pub refused : groups.refused ≡ refused_lines plan.fields input

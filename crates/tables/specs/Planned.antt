@@ -18,33 +18,34 @@ use Rattle.tables.specs.States.{GroupsState, PartialState}
 abbrev pub AreFittingUnder : PlannedQuery → List ResultRow → Type 0
 AreFittingUnder plan found = AreFitting plan.fields plan.query found
 
--- groups that fit the query of some plan
+-- Groups that fit the query of some plan.
 abbrev pub FitSomePlan : List ResultRow → Type 0
 FitSomePlan found = ∥ ((plan : PlannedQuery) × AreFittingUnder plan found) ∥₁
 
--- each place of the set is that of a grouping column
+-- Each place of the set is that of a grouping column.
 abbrev pub AreGroupingColumns : PlannedQuery → List ℕ → Type 0
 AreGroupingColumns plan set = AreAmong set (grouping_places plan.fields plan.query)
 
--- the groups are those of the records that WHERE keeps under a set of columns: one for each key, and no other
+-- The groups are those of the records that WHERE keeps under a set of columns: one for each key,
+-- and no other
 abbrev pub GivesGroupsOfSet : PlannedQuery → List ℕ → List Group → List Record → Type 0
 GivesGroupsOfSet plan set groups rows =
     SameBag (map group_summary_in groups)
     (group_summaries set (aggregate_functions plan.fields plan.query) (kept_records plan.fields plan.query rows))
 
--- the members of a key under a set of columns are those of all keys of the grouping columns that have its values, joined
+-- The members of a key under a set of columns are those of all keys of the grouping columns that
+-- have its values, joined
 abbrev pub HasMembersOfFiner : PlannedQuery → List ℕ → Key → List Record → Type 0
 HasMembersOfFiner plan set key rows = SameBag (finer_members (grouping_places plan.fields plan.query) set key rows) (members set key rows)
 
 -- ---- what a partial result gives
 
--- groups and refused lines are what a partial result gives when it is finished, whatever pieces it stands for:
--- rows      the rows are those of the groups of their records;
--- fit       the groups fit the plan;
--- members   each record that WHERE keeps is a member of one row of each grouping set;
--- numbered  where no two pieces have one index, each refused line of theirs is there by its number;
--- refused   where the pieces stand in their order, these are their refused lines one after the other;
--- whole     where the pieces are those of an input that was cut between its lines, it is the result of the input.
+-- Groups and refused lines are what a partial result gives when it is finished, whatever pieces it
+-- stands for: rows the rows are those of the groups of their records; fit the groups fit the plan;
+-- members each record that WHERE keeps is a member of one row of each grouping set; numbered where
+-- no two pieces have one index, each refused line of theirs is there by its number; refused where
+-- the pieces stand in their order, these are their refused lines one after the other; whole where
+-- the pieces are those of an input that was cut between its lines, it is the result of the input.
 pub record IsFinishOf (plan : PlannedQuery) (partial : PartialState) (groups : GroupsState) : Type 0 where
   pub rows : (pieces : List IndexedPiece) → StandsFor plan partial pieces → GivesGroups plan groups (records_of plan.fields pieces)
   pub fit : AreFittingUnder plan groups.found

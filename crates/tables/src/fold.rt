@@ -1,4 +1,5 @@
 //! Reading the lines of a piece.
+
 ghost use Rattle.std.specs.Prelude.{◌≡◌, ◌≤◌, [], All, List, IfOk, length};
 ghost use Rattle.semantics.specs.Lines.{lines};
 ghost use Rattle.semantics.specs.Groups as groups;
@@ -23,7 +24,8 @@ pub(crate) struct Folding {
     pub(crate) refused: u64,
     /// These by their numbers, from 1.
     pub(crate) refusals: Refusals,
-    /// Of the record that was kept last, which filters of the query keep it. It is written over for each.
+    /// Of the record that was kept last, which filters of the query keep it. It is written over for
+    /// each.
     marks: Vec<bool>,
 }
 
@@ -100,7 +102,8 @@ impl Folding {
     }
 }
 
-/// The table of no records of a plan, laid out so that the executor is fast in merging others into it.
+/// The table of no records of a plan, laid out so that the executor is fast in merging others into
+/// it.
 pub(crate) fn empty_table<E: Executor>(
     alloc: Global,
     plan: &Plan,

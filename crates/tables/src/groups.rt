@@ -1,4 +1,5 @@
 //! The groups of an input, and its refused lines.
+
 ghost use Rattle.std.specs.Prelude.{◌≡◌, map};
 ghost use Rattle.std.proofs.Props.{props};
 ghost use Rattle.tables.specs.Planned.{FitSomePlan};
@@ -11,25 +12,28 @@ use std::marker::{Model, Sync};
 use std::thread;
 use std::thread::Threads;
 
-/// The least number of groups whose memory several threads give back: that of fewer is back before a thread starts.
+/// The least number of groups whose memory several threads give back: that of fewer is back before
+/// a thread starts.
 const PARALLEL_MIN_GROUPS: usize = 4_096;
 
 /// What the grouping sets of a query find in an input: their groups, and the refused lines.
 ///
-/// The groups fit the plan of some query: the index of each is that of a grouping set, its key has a value for each
-/// column of the set, of the column's type or NULL, it has a cell for each set function, of the function's type, and
-/// no index and key stand twice together. Only `Partial::finish` makes one.
+/// The groups fit the plan of some query: the index of each is that of a grouping set, its key has
+/// a value for each column of the set, of the column's type or NULL, it has a cell for each set
+/// function, of the function's type, and no index and key stand twice together. Only
+/// `Partial::finish` makes one.
 ///
-/// Example: under `GROUP BY ROLLUP (shop)`, over one record of the shop `'Quay'`, there are the group with the key
-/// `'Quay'` beside the index 0, and that with the empty key beside the index 1.
+/// Example: under `GROUP BY ROLLUP (shop)`, over one record of the shop `'Quay'`, there are the
+/// group with the key `'Quay'` beside the index 0, and that with the empty key beside the index 1.
 pub struct Groups {
     refused: Vec<(u64, LineFault)>,
     rows: Vec<(usize, Group)>,
     ghost fit: { FitSomePlan (map row_of rows.items) } by { Prim.hlevel props },
 }
 
-// A function of its own: a derived one is written out, and proved, wherever groups are given up. What lies in one piece of
-// memory goes before the many small pieces of the groups: behind these the allocator would look at each of them.
+// A function of its own: a derived one is written out, and proved, wherever groups are given up.
+// What lies in one piece of memory goes before the many small pieces of the groups: behind these
+// the allocator would look at each of them.
 impl Drop for Groups {
     fn drop(self) {
         let Groups { refused, rows } = self;
@@ -58,7 +62,8 @@ impl Groups {
         Groups { refused, rows }
     }
 
-    /// The groups, each with the index of its grouping set among those of the plan, from 0, in no order that is said.
+    /// The groups, each with the index of its grouping set among those of the plan, from 0, in no
+    /// order that is said.
     pub fn rows(&self) -> &[(usize, Group)]
         ensures rows { map row_of result.now ≡ self.now.found }
         ensures fit { FitSomePlan self.now.found }
@@ -66,8 +71,8 @@ impl Groups {
         self.rows.as_slice()
     }
 
-    /// The refused lines, each by its number in the input, from 1, with its fault; ascending where no two pieces had
-    /// one index.
+    /// The refused lines, each by its number in the input, from 1, with its fault; ascending where
+    /// no two pieces had one index.
     pub fn refused(&self) -> &[(u64, LineFault)]
         ensures { result.now ≡ self.now.refused }
     {
@@ -76,7 +81,8 @@ impl Groups {
 
     /// Gives the memory of the groups back; the executor does so.
     ///
-    /// Example: `groups.give_back(&Parallel { rt: &rt, workers: 4, seed }, alloc)` does what `drop(groups)` does.
+    /// Example: `groups.give_back(&Parallel { rt: &rt, workers: 4, seed }, alloc)` does what
+    /// `drop(groups)` does.
     pub fn give_back<E: Executor>(self, executor: &E, alloc: Global)
         requires ready { E.ready executor.now }
     {

@@ -1,4 +1,5 @@
 //! The pieces of an input as a work for a pool.
+
 ghost use Rattle.std.specs.Prelude.{◌≡◌, ◌≤◌, ◌<◌, ◌+◌, min, All, length, ◌^◌, ◌-◌};
 ghost use Rattle.std.proofs.Props.{props};
 ghost use Rattle.tables.specs.Pieces.{piece_at};
@@ -13,11 +14,12 @@ use std::alloc::{AllocError, Global};
 
 /// The pieces of an input under a plan, each by its index: what a pool makes one result of.
 ///
-/// A piece past the last one has no bytes. The weight of a result is the number of its refused lines, and its load
-/// the number of its lines.
+/// A piece past the last one has no bytes. The weight of a result is the number of its refused
+/// lines, and its load the number of its lines.
 ///
-/// Example: of a job over two pieces, `pool::alone(&job, 2, 0)` answers `Ok(Outcome::Whole(partial))` where no line of
-/// theirs is refused, and `Ok(Outcome::Over)` where one is, unless memory runs out.
+/// Example: of a job over two pieces, `pool::alone(&job, 2, 0)` answers
+/// `Ok(Outcome::Whole(partial))` where no line of theirs is refused, and `Ok(Outcome::Over)` where
+/// one is, unless memory runs out.
 #[derive(Drop)]
 pub struct Job<'a> {
     alloc: Global,
@@ -33,11 +35,11 @@ pub struct Job<'a> {
 impl<'a> Job<'a> {
     ghost use Rattle.tables.specs.Jobs.{input_of_job, pieces_of_job, plan_of_job};
 
-    /// The job of a plan over the pieces of an input, whose starts and stops are counted in bytes, from 0. It takes no
-    /// memory; the results take theirs from `alloc`.
+    /// The job of a plan over the pieces of an input, whose starts and stops are counted in bytes,
+    /// from 0. It takes no memory; the results take theirs from `alloc`.
     ///
-    /// The input has fewer than 2^63 bytes. No piece starts behind its stop, and none stops behind the end of the
-    /// input; so it is with the pieces that `cut` gives.
+    /// The input has fewer than 2^63 bytes. No piece starts behind its stop, and none stops behind
+    /// the end of the input; so it is with the pieces that `cut` gives.
     ///
     /// Example: where `pieces` are those of `cut(alloc, input, 1_048_576)?`,
     /// `Job::new(alloc, &plan, input, pieces.as_slice())` is the job over the whole input.
@@ -111,10 +113,12 @@ impl<'a> Work for Job<'a> {
     }
 }
 
-/// A job whose results are merged by an executor. Its pieces have indexes from a first one on, so that they can stand behind
-/// pieces that a result has already; no index is above the greatest number of 32 bits.
+/// A job whose results are merged by an executor. Its pieces have indexes from a first one on, so
+/// that they can stand behind pieces that a result has already; no index is above the greatest
+/// number of 32 bits.
 ///
-/// Example: a pool makes of `JobBy::new(job, &Parallel { rt: &rt, workers: 4, seed }, 0)` what it makes of `job`.
+/// Example: a pool makes of `JobBy::new(job, &Parallel { rt: &rt, workers: 4, seed }, 0)` what it
+/// makes of `job`.
 #[derive(Drop)]
 pub struct JobBy<'a, E: Executor> {
     job: Job<'a>,
@@ -126,7 +130,8 @@ pub struct JobBy<'a, E: Executor> {
 impl<'a, E: Executor> JobBy<'a, E> {
     ghost use Rattle.tables.specs.Jobs.{first_of_job, joined_job};
 
-    /// The job with this executor, which is ready, whose first piece has the index `first`. It takes no memory.
+    /// The job with this executor, which is ready, whose first piece has the index `first`. It
+    /// takes no memory.
     ///
     /// Example: `JobBy::new(job, &Serial, 0)` is a work like `job`.
     pub fn new(job: Job<'a>, executor: &'a E, first: u32) -> JobBy<'a, E>

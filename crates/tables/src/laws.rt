@@ -1,4 +1,5 @@
 //! Laws of partial results and of groups, with no work to do.
+
 ghost use Rattle.std.specs.Prelude.{◌≡◌, ◌+◌, ◌<◌, ◌^◌, ◌++◌, ℕ, List, length};
 ghost use Rattle.lines.specs.Pieces.{AreWholeLines};
 ghost use Rattle.lines.specs.declared.pieces.Piece.{Piece};
@@ -16,8 +17,8 @@ ghost use Rattle.tables.specs.Pieces.{IndexedPiece, all_lines, indexed_pieces, i
 ghost use Rattle.tables.specs.Sound.{IsSoundUnder};
 ghost use Rattle.tables.specs.States.{GroupsState, PartialState};
 
-/// A law: the result of some pieces and more pieces is what the results of both come to together. So no thread, round or
-/// machine that makes a result of some of the pieces can change that of all.
+/// A law: the result of some pieces and more pieces is what the results of both come to together.
+/// So no thread, round or machine that makes a result of some of the pieces can change that of all.
 pub fn pieces_law()
     ensures { (plan : PlannedQuery) (pieces more : List IndexedPiece)
         → of_pieces plan (pieces ++ more) ≡ both (of_pieces plan pieces) (of_pieces plan more) }
@@ -42,8 +43,9 @@ pub fn order_law()
         → SameBag pieces others → of_pieces plan pieces ≡ of_pieces plan others }
 {}
 
-/// A law: whatever pieces an input was cut into, no two of them have one index, and its result as one piece is that of the
-/// one piece that it is; and so it is with a front, which is whole lines, and the rest behind it.
+/// A law: whatever pieces an input was cut into, no two of them have one index, and its result as
+/// one piece is that of the one piece that it is; and so it is with a front, which is whole lines,
+/// and the rest behind it.
 pub fn one_piece_law()
     ensures own { (plan : PlannedQuery) (partial : PartialState) (input : List ℕ)
         → StandsForInput plan partial input → HasOwnIndexes partial }
@@ -54,8 +56,9 @@ pub fn one_piece_law()
         → StandsFor plan (concatenation front rest) (whole_piece (before ++ after)) }
 {}
 
-/// A law: in the same records in any other order a query finds the same: each row of its groups as often. So the rows that
-/// a report shows are one list, whatever the order of the records, by `arranged_law` of `report_rows`.
+/// A law: in the same records in any other order a query finds the same: each row of its groups as
+/// often. So the rows that a report shows are one list, whatever the order of the records, by
+/// `arranged_law` of `report_rows`.
 pub fn records_law()
     ensures { (plan : PlannedQuery) (rows others : List Record) → SameBag rows others → SameBag
         (rows_before_having plan.fields plan.query rows) (rows_before_having plan.fields plan.query others) }
@@ -63,8 +66,8 @@ pub fn records_law()
     group_tables::records_law();
 }
 
-/// A law: where groups are those that a query finds in a list of records, each record that WHERE keeps is a member of
-/// exactly one row of each grouping set.
+/// A law: where groups are those that a query finds in a list of records, each record that WHERE
+/// keeps is a member of exactly one row of each grouping set.
 pub fn members_law()
     ensures { (plan : PlannedQuery) (groups : GroupsState) (rows : List Record)
         → GivesGroups plan groups rows → HasEachRecordOnce plan groups.found rows }
@@ -72,8 +75,8 @@ pub fn members_law()
     group_tables::members_law();
 }
 
-/// A law: a plan can finish each result of its own over some pieces; so it can what two come to that it can finish, and what
-/// is one of these but for its notes.
+/// A law: a plan can finish each result of its own over some pieces; so it can what two come to
+/// that it can finish, and what is one of these but for its notes.
 pub fn sound_law()
     ensures of_pieces { (plan : PlannedQuery) (partial : PartialState)
         → IsPartialOf plan partial → IsSoundUnder plan partial }
@@ -84,7 +87,8 @@ pub fn sound_law()
         → IsSoundUnder plan before → DiffersInNotes before partial → IsSoundUnder plan partial }
 {}
 
-/// A law: a result that a plan can finish, and that has the contents of an input, as one piece, stands for the input.
+/// A law: a result that a plan can finish, and that has the contents of an input, as one piece,
+/// stands for the input.
 pub fn contents_law()
     ensures { (plan : PlannedQuery) (partial : PartialState) (input : List ℕ)
         → IsSoundUnder plan partial
@@ -94,13 +98,14 @@ pub fn contents_law()
     group_tables::entries_law();
 }
 
-/// A law: what all pieces of a job come to, one after the other, is what they come to; and the weights and the loads of
-/// these are the numbers of their refused lines and of their lines.
+/// A law: what all pieces of a job come to, one after the other, is what they come to; and the
+/// weights and the loads of these are the numbers of their refused lines and of their lines.
 pub fn job_law()
     ensures whole { (plan : PlannedQuery) (input : List ℕ) (pieces : List Piece)
         → total_of plan (piece_at input pieces) (length pieces)
         ≡ of_pieces plan (indexed_pieces input pieces) }
-    // So it is with indexes from a first one on, where none is above the greatest number of 32 bits.
+    // So it is with indexes from a first one on, where none is above the greatest number of 32
+    // bits.
     ensures whole_by { (plan : PlannedQuery) (first : ℕ) (input : List ℕ) (pieces : List Piece)
         → first + length pieces < 2 ^ 32 → total_of plan (piece_from first input pieces) (length pieces)
         ≡ of_pieces plan (indexed_pieces_from first input pieces) }

@@ -1,14 +1,15 @@
 //! Partial results over pieces of an input, and the groups of the whole.
 //!
-//! A result is made of each piece apart, in any order and on any thread; results are merged in any order, and finished.
+//! A result is made of each piece apart, in any order and on any thread; results are merged in any
+//! order, and finished.
 #![tactic(auto)]
 
 mod contents;
 mod fold;
 mod groups;
 mod job;
-mod merge;
 mod laws;
+mod merge;
 mod numbers;
 mod partial;
 mod piece_refusals;

@@ -1,15 +1,16 @@
 //! Two tables, put together.
+
 ghost use Rattle.std.specs.Prelude.{◌≡◌, ◌⊎◌, IfOk};
 ghost use Rattle.group_tables.specs.Table.{CanJoin, both_tables};
 
 use group_tables::{Executor, Table};
 use std::alloc::AllocError;
 
-/// The table of the records of two, which are under one grouping set and for the same set functions. The executor moves the
-/// groups of the one that has fewer.
+/// The table of the records of two, which are under one grouping set and for the same set
+/// functions. The executor moves the groups of the one that has fewer.
 ///
-/// Where both have a group of one key, the two have fewer than 2^63 members together, and are for as many
-/// functions.
+/// Where both have a group of one key, the two have fewer than 2^63 members together, and are for
+/// as many functions.
 pub(crate) fn merge_tables<E: Executor>(
     executor: &E,
     first: Table,

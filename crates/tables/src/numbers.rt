@@ -1,4 +1,5 @@
 //! The refused lines of all pieces by their numbers in the input.
+
 ghost use Rattle.std.specs.Prelude.{◌≡◌, ◌+◌, ◌<◌, ◌++◌, IfOk, OnOk, All};
 ghost use Rattle.std.specs.List.Sorted.{IsPermutation, IsNonDecreasingBy};
 ghost use Rattle.tables.specs.Inside.Notes.{AreLinesBehind, AreLinesOf};
@@ -10,9 +11,9 @@ use crate::refusals::Refusals;
 use lines::LineFault;
 use std::alloc::{AllocError, Global};
 
-/// The list of the refused lines of the pieces by ascending index, each numbered by its place within its piece and the
-/// line counts of the pieces before. The list takes memory for so many lines at once; each note is given back as soon
-/// as its lines are in the list.
+/// The list of the refused lines of the pieces by ascending index, each numbered by its place
+/// within its piece and the line counts of the pieces before. The list takes memory for so many
+/// lines at once; each note is given back as soon as its lines are in the list.
 pub(crate) fn number(
     alloc: Global,
     count: u64,
@@ -26,7 +27,8 @@ pub(crate) fn number(
     list_in_order(alloc, count, notes)
 }
 
-/// The refused lines of the pieces by ascending index, numbered as in `number`, without a list of them.
+/// The refused lines of the pieces by ascending index, numbered as in `number`, without a list of
+/// them.
 pub(crate) fn gather(alloc: Global, notes: Vec<PieceRefusals>) -> Result<Refusals, AllocError>
     requires few { line_count (notes_in notes) < input_limit }
     requires numbered { All IsWellNumbered (notes_in notes) }
@@ -36,8 +38,9 @@ pub(crate) fn gather(alloc: Global, notes: Vec<PieceRefusals>) -> Result<Refusal
     gather_in_order(alloc, notes)
 }
 
-/// Puts the refused lines of more pieces behind those of an earlier part of the input, which has so many lines: by
-/// ascending index, each numbered by its place within its piece and the line counts of all that is before.
+/// Puts the refused lines of more pieces behind those of an earlier part of the input, which has so
+/// many lines: by ascending index, each numbered by its place within its piece and the line counts
+/// of all that is before.
 pub(crate) fn gather_behind(
     gathered: &mut Refusals,
     before: u64,
@@ -61,8 +64,8 @@ fn sort_by_index(mut notes: Vec<PieceRefusals>) -> Vec<PieceRefusals>
     notes
 }
 
-/// The list of the refused lines of the pieces in the order of the notes, each numbered by its place within its piece
-/// and the line counts of the pieces before.
+/// The list of the refused lines of the pieces in the order of the notes, each numbered by its
+/// place within its piece and the line counts of the pieces before.
 fn list_in_order(
     alloc: Global,
     count: u64,
@@ -81,8 +84,9 @@ fn list_in_order(
     Ok(list)
 }
 
-/// The refused lines of the pieces in the order of the notes, each numbered by its place within its piece and the line
-/// counts of the pieces before. Those of the first piece have these numbers already, and stay as they are.
+/// The refused lines of the pieces in the order of the notes, each numbered by its place within its
+/// piece and the line counts of the pieces before. Those of the first piece have these numbers
+/// already, and stay as they are.
 fn gather_in_order(alloc: Global, mut notes: Vec<PieceRefusals>) -> Result<Refusals, AllocError>
     requires few { line_count (notes_in notes) < input_limit }
     requires numbered { All IsWellNumbered (notes_in notes) }
@@ -97,8 +101,8 @@ fn gather_in_order(alloc: Global, mut notes: Vec<PieceRefusals>) -> Result<Refus
     Ok(gathered)
 }
 
-/// Puts the refused lines of pieces, in the order of the notes, behind those of the pieces before, which have so many
-/// lines.
+/// Puts the refused lines of pieces, in the order of the notes, behind those of the pieces before,
+/// which have so many lines.
 fn put_all_behind(
     gathered: &mut Refusals,
     mut before: u64,

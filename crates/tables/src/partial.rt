@@ -1,4 +1,5 @@
 //! Partial results: what is known of some pieces of an input.
+
 ghost use Rattle.std.specs.Prelude.{◌≡◌, ◌<◌, ◌≤◌, ◌∷◌, [], All, IfOk, length};
 ghost use Rattle.tables.specs.declared.piece_refusals.PieceRefusals.{PieceRefusals};
 ghost use Rattle.std.proofs.Props.{props};
@@ -10,8 +11,8 @@ ghost use Rattle.semantics.specs.Limits.{input_limit};
 use crate::contents::PartialContents;
 use crate::fold::{Folding, empty_table, piece_table, read_onto};
 use crate::groups::Groups;
-use crate::merge::merge_tables;
 use crate::laws::members_law;
+use crate::merge::merge_tables;
 use crate::numbers::{gather, gather_behind, number};
 use crate::piece_refusals::PieceRefusals;
 use crate::refusals::Refusals;
@@ -24,13 +25,14 @@ use std::alloc::{AllocError, Global};
 use std::marker::Model;
 use values::GroupEntry;
 
-/// The result of a query over some pieces of an input: the groups of their valid records that are kept, the counts
-/// of their lines, and their refused lines.
+/// The result of a query over some pieces of an input: the groups of their valid records that are
+/// kept, the counts of their lines, and their refused lines.
 ///
 /// Partial results of all pieces, merged in any order, give the result of the whole input.
 ///
-/// Example: an input is cut behind its third line, and a result made of each of the two pieces, with the indexes 0 and
-/// 1; merged either way round and finished, they give the groups and the refused lines of the input.
+/// Example: an input is cut behind its third line, and a result made of each of the two pieces,
+/// with the indexes 0 and 1; merged either way round and finished, they give the groups and the
+/// refused lines of the input.
 pub struct Partial {
     alloc: Global,
     shape: Shape,
@@ -104,7 +106,8 @@ impl Partial {
     ghost use Rattle.values.specs.Datum.{data_of};
     ghost use Rattle.tables.specs.Pieces.{IndexedPiece, all_lines, records_of, refused_lines_within};
 
-    /// The result over no pieces, so of no lines: merged with another one of the plan, it adds nothing to that.
+    /// The result over no pieces, so of no lines: merged with another one of the plan, it adds
+    /// nothing to that.
     ///
     /// Example: `lines()` and `refused()` of `Partial::empty(alloc, &plan)?` are 0.
     ///
@@ -119,8 +122,8 @@ impl Partial {
 
     /// What `empty` gives, laid out so that the executor is fast in merging other results into it.
     ///
-    /// Example: `Partial::empty_by(alloc, &plan, &Parallel { rt: &rt, workers: 4, seed })?` stands for no pieces, as
-    /// `Partial::empty(alloc, &plan)?` does.
+    /// Example: `Partial::empty_by(alloc, &plan, &Parallel { rt: &rt, workers: 4, seed })?` stands
+    /// for no pieces, as `Partial::empty(alloc, &plan)?` does.
     ///
     /// # Errors
     ///
@@ -144,11 +147,12 @@ impl Partial {
         })
     }
 
-    /// The result over one piece, which has this index among the pieces of its input, and these bytes, fewer than 2^63.
-    /// Pieces of an input are parted just behind line feeds: what a piece has behind its last one is a line of its own.
+    /// The result over one piece, which has this index among the pieces of its input, and these
+    /// bytes, fewer than 2^63. Pieces of an input are parted just behind line feeds: what a piece
+    /// has behind its last one is a line of its own.
     ///
-    /// Example: under the column `q:int`, the piece of the lines `{"q":1}` and `[]`, each ended by a line feed, gives a
-    /// result whose `lines()` is 2 and whose `refused()` is 1.
+    /// Example: under the column `q:int`, the piece of the lines `{"q":1}` and `[]`, each ended by
+    /// a line feed, gives a result whose `lines()` is 2 and whose `refused()` is 1.
     ///
     /// # Errors
     ///
@@ -168,7 +172,8 @@ impl Partial {
 
     /// What `fold_piece` gives, in a table of the executor.
     ///
-    /// Example: `Partial::fold_piece_by(alloc, &plan, &Serial, 0, piece)?` is `Partial::fold_piece(alloc, &plan, 0, piece)?`.
+    /// Example: `Partial::fold_piece_by(alloc, &plan, &Serial, 0, piece)?` is
+    /// `Partial::fold_piece(alloc, &plan, 0, piece)?`.
     ///
     /// # Errors
     ///
@@ -211,13 +216,14 @@ impl Partial {
         })
     }
 
-    /// The result over the pieces of this one and one piece more, which has this index among the pieces of its input.
-    /// Its records go into the table that is there.
+    /// The result over the pieces of this one and one piece more, which has this index among the
+    /// pieces of its input. Its records go into the table that is there.
     ///
-    /// This is a result of the plan, over some pieces, and has fewer than 2^63 lines together with the piece.
+    /// This is a result of the plan, over some pieces, and has fewer than 2^63 lines together with
+    /// the piece.
     ///
-    /// Example: `partial.fold_onto(&plan, 1, piece)?` stands for the same pieces as `partial` merged with
-    /// `Partial::fold_piece(alloc, &plan, 1, piece)?`.
+    /// Example: `partial.fold_onto(&plan, 1, piece)?` stands for the same pieces as `partial`
+    /// merged with `Partial::fold_piece(alloc, &plan, 1, piece)?`.
     ///
     /// # Errors
     ///
@@ -273,11 +279,12 @@ impl Partial {
         self.refused
     }
 
-    /// Whether two results are of the same grouping sets, set functions and filters, and so can be merged. It is true
-    /// of any two results of one query under one schema. It takes no memory.
+    /// Whether two results are of the same grouping sets, set functions and filters, and so can be
+    /// merged. It is true of any two results of one query under one schema. It takes no memory.
     ///
-    /// Example: under one schema it is true of two results of `SELECT COUNT(*) FROM lines GROUP BY shop`, and false of
-    /// one of that and one of `SELECT COUNT(*) FROM lines GROUP BY kind`.
+    /// Example: under one schema it is true of two results of
+    /// `SELECT COUNT(*) FROM lines GROUP BY shop`, and false of one of that and one of
+    /// `SELECT COUNT(*) FROM lines GROUP BY kind`.
     pub fn same_shape(&self, other: &Partial) -> bool
         ensures same { IsTrue result ↔ HaveOneShape self.now other.now }
         ensures of_one_query { (plan : PlannedQuery)
@@ -288,11 +295,11 @@ impl Partial {
         self.shape.is_same(&other.shape)
     }
 
-    /// The result over the pieces of both, whichever is merged with the other. `same_shape` is true of the two, and
-    /// they have fewer than 2^63 lines together.
+    /// The result over the pieces of both, whichever is merged with the other. `same_shape` is true
+    /// of the two, and they have fewer than 2^63 lines together.
     ///
-    /// Example: a result over 3 lines, 1 of them refused, merged with one over 2 good lines of another piece, is one
-    /// over 5 lines, 1 of them refused.
+    /// Example: a result over 3 lines, 1 of them refused, merged with one over 2 good lines of
+    /// another piece, is one over 5 lines, 1 of them refused.
     ///
     /// # Errors
     ///
@@ -307,8 +314,8 @@ impl Partial {
 
     /// What `merge` does, where the executor merges the tables. It can do so.
     ///
-    /// Example: `first.merge_by(&Parallel { rt: &rt, workers: 4, seed }, second)?` stands for the pieces of both, as
-    /// `first.merge(second)?` does.
+    /// Example: `first.merge_by(&Parallel { rt: &rt, workers: 4, seed }, second)?` stands for the
+    /// pieces of both, as `first.merge(second)?` does.
     ///
     /// # Errors
     ///
@@ -348,14 +355,16 @@ impl Partial {
         })
     }
 
-    /// The result over an input of which this one is the result of the front, and the other one that of the rest behind
-    /// it. The front is whole lines: it is empty, or ends in a line feed. The answer stands for the input as one piece
-    /// of index 0, so that the refused lines of the rest are numbered behind the lines of the front. Which pieces the
-    /// two were cut into is forgotten.
+    /// The result over an input of which this one is the result of the front, and the other one
+    /// that of the rest behind it. The front is whole lines: it is empty, or ends in a line feed.
+    /// The answer stands for the input as one piece of index 0, so that the refused lines of the
+    /// rest are numbered behind the lines of the front. Which pieces the two were cut into is
+    /// forgotten.
     ///
     /// `same_shape` is true of the two, and they have fewer than 2^63 lines together.
     ///
-    /// Example: where the front has 3 lines and the first line of the rest is refused, that is line 4 of the input.
+    /// Example: where the front has 3 lines and the first line of the rest is refused, that is line
+    /// 4 of the input.
     ///
     /// # Errors
     ///
@@ -373,8 +382,8 @@ impl Partial {
 
     /// What `follow` does, where the executor merges the tables. It can do so.
     ///
-    /// Example: `front.follow_by(&Parallel { rt: &rt, workers: 4, seed }, rest)?` stands for the whole input, as
-    /// `front.follow(rest)?` does.
+    /// Example: `front.follow_by(&Parallel { rt: &rt, workers: 4, seed }, rest)?` stands for the
+    /// whole input, as `front.follow(rest)?` does.
     ///
     /// # Errors
     ///
@@ -427,14 +436,17 @@ impl Partial {
         })
     }
 
-    /// The result over an input of which this one is the result of the front, and `rest` are the bytes of the rest behind
-    /// it. The front is whole lines: it is empty, or ends in a line feed. The records of the rest go into the table that is
-    /// there. The answer stands for the input as one piece of index 0, so that the refused lines of the rest are numbered
-    /// behind the lines of the front.
+    /// The result over an input of which this one is the result of the front, and `rest` are the
+    /// bytes of the rest behind it. The front is whole lines: it is empty, or ends in a line feed.
+    /// The records of the rest go into the table that is there. The answer stands for the input as
+    /// one piece of index 0, so that the refused lines of the rest are numbered behind the lines of
+    /// the front.
     ///
-    /// This is a result of the plan, over some pieces, and has fewer than 2^63 lines together with the rest.
+    /// This is a result of the plan, over some pieces, and has fewer than 2^63 lines together with
+    /// the rest.
     ///
-    /// Example: where the front has 3 lines and the first line of the rest is refused, that is line 4 of the input.
+    /// Example: where the front has 3 lines and the first line of the rest is refused, that is line
+    /// 4 of the input.
     ///
     /// # Errors
     ///
@@ -475,11 +487,13 @@ impl Partial {
         })
     }
 
-    /// The result over the same input as one piece, of index 0, or over no piece where it has no line. Which pieces it was
-    /// cut into is forgotten, so that pieces behind it can have the indexes from 1 on.
+    /// The result over the same input as one piece, of index 0, or over no piece where it has no
+    /// line. Which pieces it was cut into is forgotten, so that pieces behind it can have the
+    /// indexes from 1 on.
     ///
-    /// Example: of a result over the pieces 0 and 1 of an input, `partial.in_one_piece()?` has as many lines, and merged
-    /// with that over a piece of index 1 whose first line is refused, it has that line numbered behind all of these.
+    /// Example: of a result over the pieces 0 and 1 of an input, `partial.in_one_piece()?` has as
+    /// many lines, and merged with that over a piece of index 1 whose first line is refused, it has
+    /// that line numbered behind all of these.
     ///
     /// # Errors
     ///
@@ -510,17 +524,19 @@ impl Partial {
         })
     }
 
-    /// The groups and the refused lines of the pieces. For each grouping set of the plan, and each key of the good
-    /// records that WHERE keeps, there is one group, with the number of its members and the value of each set function
-    /// (ISO/IEC 9075-2, `<group by clause>`); the empty set has its one group also over no records. Where no two pieces
-    /// have one index, each refused line is there once, by its number in the input, from 1: the lines of the pieces
-    /// with a smaller index stand before its own.
+    /// The groups and the refused lines of the pieces. For each grouping set of the plan, and each
+    /// key of the good records that WHERE keeps, there is one group, with the number of its members
+    /// and the value of each set function (ISO/IEC 9075-2, `<group by clause>`); the empty set has
+    /// its one group also over no records. Where no two pieces have one index, each refused line is
+    /// there once, by its number in the input, from 1: the lines of the pieces with a smaller index
+    /// stand before its own.
     ///
-    /// This is a result that the plan can finish, as each one of the plan over some pieces is (`sound_law`).
+    /// This is a result that the plan can finish, as each one of the plan over some pieces is
+    /// (`sound_law`).
     ///
-    /// Example: of the lines `{"shop":"Quay","cents":250}` and `{"shop":"Quay","cents":50}`, the plan of
-    /// `SELECT shop, SUM(cents) FROM lines GROUP BY shop` finds one group: the key `'Quay'`, 2 members and the cell
-    /// 300.
+    /// Example: of the lines `{"shop":"Quay","cents":250}` and `{"shop":"Quay","cents":50}`, the
+    /// plan of `SELECT shop, SUM(cents) FROM lines GROUP BY shop` finds one group: the key
+    /// `'Quay'`, 2 members and the cell 300.
     ///
     /// # Errors
     ///
@@ -534,10 +550,11 @@ impl Partial {
 
     /// What `finish` gives, where the executor finishes the groups. It can do so.
     ///
-    /// This is a result that the plan can finish, as each one of the plan over some pieces is (`sound_law`).
+    /// This is a result that the plan can finish, as each one of the plan over some pieces is
+    /// (`sound_law`).
     ///
-    /// Example: `partial.finish_by(&Parallel { rt: &rt, workers: 4, seed }, &plan)?` gives the groups and the refused lines that
-    /// `partial.finish(&plan)?` gives.
+    /// Example: `partial.finish_by(&Parallel { rt: &rt, workers: 4, seed }, &plan)?` gives the
+    /// groups and the refused lines that `partial.finish(&plan)?` gives.
     ///
     /// # Errors
     ///
@@ -562,15 +579,15 @@ impl Partial {
         Ok(Groups::new(rows, refused))
     }
 
-    /// The groups under any set of grouping columns, whether or not it is one of the query's grouping sets: one for
-    /// each key of the records that WHERE keeps and no other, its values in the order of the set. They come in no order
-    /// that is said, and this result stays as it is.
+    /// The groups under any set of grouping columns, whether or not it is one of the query's
+    /// grouping sets: one for each key of the records that WHERE keeps and no other, its values in
+    /// the order of the set. They come in no order that is said, and this result stays as it is.
     ///
-    /// This is a result that the plan can finish, as each one of the plan over some pieces is (`sound_law`). The set has
-    /// places of columns, from 0, all among those of `Plan::grouping`.
+    /// This is a result that the plan can finish, as each one of the plan over some pieces is
+    /// (`sound_law`). The set has places of columns, from 0, all among those of `Plan::grouping`.
     ///
-    /// Example: `partial.roll(&plan, &[])?` is one group with the empty key, whose members are all records that WHERE
-    /// keeps, also where there are none.
+    /// Example: `partial.roll(&plan, &[])?` is one group with the empty key, whose members are all
+    /// records that WHERE keeps, also where there are none.
     ///
     /// # Errors
     ///
@@ -581,7 +598,8 @@ impl Partial {
         ensures groups { IfOk result (λ groups. (pieces : List IndexedPiece)
             → StandsFor plan.now self.now pieces
             → GivesGroupsOfSet plan.now set.now groups.items (records_of plan.now.fields pieces)) }
-        // The members of a key are those of all keys of the grouping columns that have its values, joined.
+        // The members of a key are those of all keys of the grouping columns that have its values,
+        // joined.
         ensures members { OnOk result ((rows : List Record) (key : Key)
             → HasMembersOfFiner plan.now set.now key rows) }
     {
@@ -590,10 +608,12 @@ impl Partial {
         table.finish(&Serial)
     }
 
-    /// What the result contains. Of a result over the pieces of an input, its refused lines are numbered in the input, and
-    /// its groups are those of the good records that WHERE keeps, under all grouping columns.
+    /// What the result contains. Of a result over the pieces of an input, its refused lines are
+    /// numbered in the input, and its groups are those of the good records that WHERE keeps, under
+    /// all grouping columns.
     ///
-    /// Example: of a result over 3 good lines of one key there are 3 lines, no refused line, and one group with 3 members.
+    /// Example: of a result over 3 good lines of one key there are 3 lines, no refused line, and
+    /// one group with 3 members.
     ///
     /// # Errors
     ///
@@ -622,13 +642,14 @@ impl Partial {
         })
     }
 
-    /// The result of a plan with so many lines, fewer than 2^63, and these refused ones, by their numbers from 1, as one
-    /// piece of index 0, but without any group yet. It is laid out so that the executor is fast in merging other results
-    /// into it.
+    /// The result of a plan with so many lines, fewer than 2^63, and these refused ones, by their
+    /// numbers from 1, as one piece of index 0, but without any group yet. It is laid out so that
+    /// the executor is fast in merging other results into it.
     ///
     /// There are at most as many refused lines as lines, and none has a number above theirs.
     ///
-    /// Example: `lines()` of `Partial::without_groups(alloc, &plan, &Serial, 3, Vec::new(alloc))?` is 3.
+    /// Example: `lines()` of `Partial::without_groups(alloc, &plan, &Serial, 3, Vec::new(alloc))?`
+    /// is 3.
     ///
     /// # Errors
     ///
@@ -671,15 +692,16 @@ impl Partial {
         })
     }
 
-    /// The result with one more group, whose key is above those of all its groups. The lines and the refused ones stay as
-    /// they are.
+    /// The result with one more group, whose key is above those of all its groups. The lines and
+    /// the refused ones stay as they are.
     ///
-    /// The states are of the forms that the set functions of the result keep, over at most as many members as the group has:
-    /// counts and sums of no more, and different values ascending. With the group's members the groups have at most as many
-    /// together as there are lines.
+    /// The states are of the forms that the set functions of the result keep, over at most as many
+    /// members as the group has: counts and sums of no more, and different values ascending. With
+    /// the group's members the groups have at most as many together as there are lines.
     ///
-    /// Example: groups that `into_contents` gives can be put, one after the other, to a result of the same plan and as many
-    /// lines that has none; it stands for the same input then (`contents_law`).
+    /// Example: groups that `into_contents` gives can be put, one after the other, to a result of
+    /// the same plan and as many lines that has none; it stands for the same input then
+    /// (`contents_law`).
     ///
     /// # Errors
     ///
@@ -724,7 +746,8 @@ fn one_note(alloc: Global, note: PieceRefusals) -> Result<Vec<PieceRefusals>, Al
     Ok(notes)
 }
 
-/// The notes of so many lines as one piece, of index 0, with these refused ones; of no line there is none.
+/// The notes of so many lines as one piece, of index 0, with these refused ones; of no line there
+/// is none.
 fn note_if_any(
     alloc: Global,
     lines: u64,

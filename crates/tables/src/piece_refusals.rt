@@ -1,4 +1,5 @@
 //! The refused lines of a piece.
+
 use crate::refusals::Refusals;
 
 /// The refused lines of a piece, and how many lines it has: what is kept of it beside its groups.

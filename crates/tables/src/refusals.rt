@@ -1,4 +1,5 @@
 //! Refused lines by their numbers, where neighbours with one fault are kept as one.
+
 ghost use Rattle.std.specs.Prelude.{◌≡◌, ◌+◌, ◌<◌, ◌++◌, ◌^◌, ◌∷◌, [], All, IsTrue, OnOk, false, map};
 ghost use Rattle.tables.specs.Inside.Refusals.{lines_of_run, lines_of_runs};
 
@@ -101,7 +102,8 @@ impl Run {
         self.fault == fault && self.first < number && number - self.first - 1 == self.more
     }
 
-    /// Takes the line, where it is the next neighbour and has the same fault. The answer is whether it does.
+    /// Takes the line, where it is the next neighbour and has the same fault. The answer is whether
+    /// it does.
     fn take(&mut self, number: u64, fault: LineFault) -> bool
         ensures taken { IsTrue result
             → lines_of_run self.new ≡ lines_of_run self.old ++ (number, fault) ∷ [] }
@@ -115,8 +117,8 @@ impl Run {
     }
 }
 
-/// Puts one more line behind the runs: to the last one where it is the next neighbour with the same fault, else as a
-/// run of its own.
+/// Puts one more line behind the runs: to the last one where it is the next neighbour with the same
+/// fault, else as a run of its own.
 fn push_line(runs: &mut Vec<Run>, number: u64, fault: LineFault) -> Result<(), AllocError>
     ensures { OnOk result (lines_of_runs runs.new.items
         ≡ lines_of_runs runs.old.items ++ (number, fault) ∷ []) }
@@ -132,7 +134,8 @@ fn push_line(runs: &mut Vec<Run>, number: u64, fault: LineFault) -> Result<(), A
     Ok(())
 }
 
-/// Puts one more line to the last run, where it is the next neighbour with the same fault. The answer is whether it is.
+/// Puts one more line to the last run, where it is the next neighbour with the same fault. The
+/// answer is whether it is.
 fn lengthen_last(runs: &mut Vec<Run>, number: u64, fault: LineFault) -> bool
     ensures longer { IsTrue result → lines_of_runs runs.new.items
         ≡ lines_of_runs runs.old.items ++ (number, fault) ∷ [] }

@@ -1,4 +1,5 @@
 //! The groups of each grouping set, rolled out of the table of all grouping columns.
+
 ghost use Rattle.std.specs.Prelude.{◌≡◌, ◌<◌, ◌↔◌, ◌∷◌, ◌++◌, [], Some, true, false, ℕ, All, IfOk, OnOk, IsTrue, List, length};
 ghost use Rattle.std.specs.List.{Any};
 ghost use Rattle.std.specs.List.Sorted.{IsPermutation};
@@ -18,8 +19,8 @@ use std::thread::Threads;
 
 /// The table of a grouping set.
 ///
-/// Example: a query with GROUP BY ROLLUP of two columns has three of them: of both columns, of the first one, and of
-/// the empty set.
+/// Example: a query with GROUP BY ROLLUP of two columns has three of them: of both columns, of the
+/// first one, and of the empty set.
 #[derive(Drop)]
 pub(crate) struct SetTable {
     /// The places of the columns of the set, from 0.
@@ -30,7 +31,8 @@ pub(crate) struct SetTable {
     index: Option<usize>,
 }
 
-/// A grouping set of a list whose table is to be rolled out of another one, and the table where that was done.
+/// A grouping set of a list whose table is to be rolled out of another one, and the table where
+/// that was done.
 #[derive(Drop)]
 pub(crate) struct Roll {
     set: Vec<usize>,
@@ -41,7 +43,8 @@ pub(crate) struct Roll {
 impl Roll {
     /// Makes the table, out of another one.
     ///
-    /// That is a table for these set functions, of fewer than 2^63 records, and has the columns of the set.
+    /// That is a table for these set functions, of fewer than 2^63 records, and has the columns of
+    /// the set.
     fn roll(&mut self, finer: &SetTable, functions: &[FilteredFunction])
         requires few { HasFewRecords functions.now finer.now.table }
         requires among { AreAmong (set_of_roll self.old) finer.now.set.items }
@@ -54,8 +57,8 @@ impl Roll {
     }
 }
 
-/// The tables of some rolls, which are to be made out of one table; a roll is left without one where there is no memory
-/// for it.
+/// The tables of some rolls, which are to be made out of one table; a roll is left without one
+/// where there is no memory for it.
 struct RollSets<'a> {
     finer: &'a SetTable,
     rolls: Vec<Roll>,
@@ -133,10 +136,11 @@ fn roll_among<H: Threads + Sync>(
     );
 }
 
-/// The groups of each grouping set of a list, in the order of the list; those of one set in no order that is said.
+/// The groups of each grouping set of a list, in the order of the list; those of one set in no
+/// order that is said.
 ///
-/// They are made of the table of all grouping columns, among which the columns of each set are, and finished by the
-/// executor. A table goes as soon as no other one is rolled out of it.
+/// They are made of the table of all grouping columns, among which the columns of each set are, and
+/// finished by the executor. A table goes as soon as no other one is rolled out of it.
 pub(crate) fn groups_of_sets<E: Executor>(
     alloc: Global,
     executor: &E,
@@ -169,7 +173,8 @@ fn index_of(sets: &[Vec<usize>], set: &[usize]) -> Option<usize>
     sets.iter().position(|other| other.as_slice() == set)
 }
 
-/// A roll for each set of a list, but not for the one of an index; those of sets with more columns first.
+/// A roll for each set of a list, but not for the one of an index; those of sets with more columns
+/// first.
 fn waiting_sets(
     alloc: Global,
     sets: &[Vec<usize>],
@@ -226,8 +231,9 @@ fn first_table(
     Ok(tables)
 }
 
-/// Rolls out of a table those of the waiting sets whose columns it has, but none whose columns another one of these has.
-/// Their tables come behind others, that with the fewest groups last. It gives the sets that wait on.
+/// Rolls out of a table those of the waiting sets whose columns it has, but none whose columns
+/// another one of these has. Their tables come behind others, that with the fewest groups last. It
+/// gives the sets that wait on.
 fn roll_out<E: Executor>(
     alloc: Global,
     executor: &E,
@@ -305,7 +311,8 @@ fn has_columns(finer: &[usize], set: &[usize]) -> bool
     set.iter().all(|place| finer.contains(place))
 }
 
-/// The tables of some sets, rolled out of one that has their columns; that with the fewest groups comes last.
+/// The tables of some sets, rolled out of one that has their columns; that with the fewest groups
+/// comes last.
 fn roll_sets<E: Executor>(
     alloc: Global,
     executor: &E,
@@ -368,7 +375,8 @@ fn put_rolled(tables: &mut Vec<SetTable>, roll: Roll) -> Result<(), AllocError>
     }
 }
 
-/// Finishes a table and keeps its groups at the index of its set. It goes without groups where the set has no index.
+/// Finishes a table and keeps its groups at the index of its set. It goes without groups where the
+/// set has no index.
 fn finish_set<E: Executor>(
     executor: &E,
     finished: SetTable,

@@ -1,4 +1,5 @@
 //! The groups of all grouping sets, each beside the index of its set.
+
 ghost use Rattle.std.specs.Prelude.{◌≡◌, ◌++◌, ℕ, IfOk, OnOk, List, map};
 ghost use Rattle.semantics.specs.Groups.{Record};
 ghost use Rattle.group_tables.specs.GroupSummaries.{group_summary_in};
@@ -16,8 +17,8 @@ use group_tables::{Executor, Group, Table};
 use query_plan::Plan;
 use std::alloc::{AllocError, Global};
 
-/// The groups of each grouping set of a plan, each beside the index of its set, by the table of all grouping columns. The
-/// executor finishes them.
+/// The groups of each grouping set of a plan, each beside the index of its set, by the table of all
+/// grouping columns. The executor finishes them.
 pub(crate) fn rows_of<E: Executor>(
     alloc: Global,
     executor: &E,

@@ -1,11 +1,13 @@
 //! What two partial results have the same that can be merged.
+
 ghost use Rattle.std.specs.Prelude.{◌≡◌, IfOk, IsTrue, ◌↔◌, map, string_bytes};
 ghost use Rattle.query_resolve.specs.Resolution.{contents};
 
 use query_plan::{FilteredFunction, Plan, filter_texts};
 use std::alloc::{AllocError, Global};
 
-/// The grouping sets of a query, its different set functions, and the canonical texts of their different filters.
+/// The grouping sets of a query, its different set functions, and the canonical texts of their
+/// different filters.
 pub(crate) struct Shape {
     pub(crate) sets: Vec<Vec<usize>>,
     pub(crate) functions: Vec<FilteredFunction>,

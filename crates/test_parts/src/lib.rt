@@ -1,5 +1,6 @@
-//! The calls of `part_lines` and `parts` at work: worked examples to the byte, with memory and with memory
-//! refused. They stand in a crate of their own, so that no library is proved once more for its tests.
+//! The calls of `part_lines` and `parts` at work: worked examples to the byte, with memory and with
+//! memory refused. They stand in a crate of their own, so that no library is proved once more for
+//! its tests.
 #![tactic(auto)]
 
 #[cfg(test)]

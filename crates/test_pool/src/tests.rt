@@ -1,4 +1,6 @@
-//! What no clause says: that the calls give their answers where memory and threads are ample, that threads run side by side, and who gets which piece.
+//! What no clause says: that the calls give their answers where memory and threads are ample, that
+//! threads run side by side, and who gets which piece.
+
 ghost use Rattle.std.specs.Prelude.{◌≡◌, ℕ, ◌<◌, ◌≤◌, ◌^◌, vec_len, IfOk};
 ghost use Rattle.pool.specs.Reduction.{load_below};
 ghost use Rattle.pool.specs.Settled.{AreAll};
@@ -227,7 +229,8 @@ fn new_meeting() -> Meeting {
     }
 }
 
-/// What `fan_on` makes of a new deal: the outcome, whether the hands that come back are settled, and the book's sum.
+/// What `fan_on` makes of a new deal: the outcome, whether the hands that come back are settled,
+/// and the book's sum.
 fn on_deal<L: Ledger + Send + Sync, W: Work + Sync, R: Threads + Wait + Sync>(
     rt: &R,
     alloc: Global,
@@ -357,8 +360,9 @@ fn workers_meet(rt: HostRuntime) -> Result<(), Fail> {
     Ok(())
 }
 
-/// Whether two deals of a hundred pieces, one after the other over one book of four shares, are decided rightly: the first
-/// from nothing on, and the second onto a part, with a limit. Where that is not passed, the book closes with 200.
+/// Whether two deals of a hundred pieces, one after the other over one book of four shares, are
+/// decided rightly: the first from nothing on, and the second onto a part, with a limit. Where that
+/// is not passed, the book closes with 200.
 fn deal_twice<L: Ledger + Send + Sync, R: Threads + Wait + Sync>(
     rt: &R,
     alloc: Global,
@@ -421,7 +425,8 @@ fn answer_so(hands: &mut Vec<Hand>, trace: &[(usize, Next)]) -> bool {
     true
 }
 
-/// A hand takes its own pieces first, and then steals from the first deque in its round that has one.
+/// A hand takes its own pieces first, and then steals from the first deque in its round that has
+/// one.
 #[test]
 fn traces(rt: HostRuntime) -> Result<(), Fail> {
     let mut hands = Deal::new(rt.alloc(), 2, 4)?.into_hands();
@@ -553,7 +558,8 @@ fn report_weight<L: Ledger, R: Wait>(
     book.report(rt, share, weight)
 }
 
-/// What a book of two shares answers to 3, 4 and 5, the first and the last from one share, and what it closes with.
+/// What a book of two shares answers to 3, 4 and 5, the first and the last from one share, and what
+/// it closes with.
 fn reports<L: Ledger, R: Wait>(rt: &R, alloc: Global, blank: Blank) -> Result<[u128; 4], AllocError>
     requires { (blank.name ≡ L.name) × (blank.parts ≡ L.parts) × (L.parts ≡ 2) }
 {
@@ -592,7 +598,8 @@ fn refusal_of_book(rt: HostRuntime) {
     }
 }
 
-/// The pieces are done by `alone` and by `fan_out`, and by two deals over one book, of which the second goes onto a part.
+/// The pieces are done by `alone` and by `fan_out`, and by two deals over one book, of which the
+/// second goes onto a part.
 #[test]
 fn refusal_of_fan_out(rt: HostRuntime) {
     let numbers = Numbers { alloc: rt.alloc() };
@@ -612,7 +619,8 @@ fn refusal_of_fan_out(rt: HostRuntime) {
     }
 }
 
-/// Where the weights are within the limit the hands come back settled, and the shares with all weights reported.
+/// Where the weights are within the limit the hands come back settled, and the shares with all
+/// weights reported.
 #[test]
 fn refusal_of_fan_on(rt: HostRuntime) {
     let numbers = Numbers { alloc: rt.alloc() };

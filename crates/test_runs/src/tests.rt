@@ -2,10 +2,10 @@
 
 mod joins;
 mod memory;
+mod outputs;
 mod results;
 mod rounds;
 mod runs;
 mod serve;
 mod streams;
 mod words;
-mod outputs;

@@ -61,7 +61,8 @@ abbrev pub err_or : Option SchemaFault → Result (List Field) SchemaFault → R
 err_or None r = r
 err_or (Some fault) r = Err fault
 
--- the columns of the parts that are left behind columns that stand, or the first fault of these parts
+-- the columns of the parts that are left behind columns that stand, or the first fault of these
+-- parts
 abbrev pub columns_behind : List Field → List (List ℕ) → Result (List Field) SchemaFault
 columns_behind before [] = Ok before
 columns_behind before (part ∷ rest) = err_or (fault_of (names_of before) part) (columns_behind (before ++ option_to_list (column_of part)) rest)

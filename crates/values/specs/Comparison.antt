@@ -2,7 +2,7 @@
 use Rattle.std.specs.Prelude.{⊤}
 use Rattle.semantics.specs.Values.{Datum, boolean, whole, text, null}
 
--- two values can be compared where they are of one type, or one of them is NULL
+-- Two values can be compared where they are of one type, or one of them is NULL.
 abbrev pub AreComparable : Datum → Datum → Type 0
 AreComparable null b = ⊤
 AreComparable a null = ⊤

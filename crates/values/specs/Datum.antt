@@ -10,6 +10,6 @@ datum_of (value.Int n) = whole n
 datum_of (value.Text s) = text (string_bytes s)
 datum_of value.Null = null
 
--- the values of a record, or of a key
+-- The values of a record, or of a key.
 abbrev pub data_of : List Value → List Datum
 data_of values = map datum_of values

@@ -26,8 +26,8 @@ fn accepts(op: Op, order: Ordering) -> bool
 /// The truth value of `left op right` (ISO/IEC 9075-2, `<comparison predicate>`): Unknown where an
 /// operand is NULL.
 ///
-/// It asks that both operands are of one type, or that one of them is NULL. Whole numbers compare as
-/// numbers, texts by their UTF-8 bytes, and False is less than True. It takes no memory.
+/// It asks that both operands are of one type, or that one of them is NULL. Whole numbers compare
+/// as numbers, texts by their UTF-8 bytes, and False is less than True. It takes no memory.
 ///
 /// Example: `compare(Op::Lt, &Value::Int(2), &Value::Int(10))` answers `True`, and
 /// `compare(Op::Eq, &Value::Null, &Value::Null)` answers `Unknown`.

@@ -2,9 +2,11 @@
 
 use crate::value::Value;
 
-/// The state of a set function over the members of a group that its FILTER keeps, or over all where it has none.
+/// The state of a set function over the members of a group that its FILTER keeps, or over all where
+/// it has none.
 ///
-/// Example: of the numbers 5 and 2 `SUM` has the state `Sum(7, 2)`, and `MAX` the state `Extreme` of 5.
+/// Example: of the numbers 5 and 2 `SUM` has the state `Sum(7, 2)`, and `MAX` the state `Extreme`
+/// of 5.
 #[derive(Drop)]
 pub enum State {
     /// Of `COUNT(*)` without FILTER: the number of members says it.
@@ -21,8 +23,9 @@ pub enum State {
 
 /// A group of the finest grouping set: what is kept of the records of one key.
 ///
-/// Example: of the records `'Harbour', 5` and `'Harbour', 2`, grouped by the first column and with SUM of the second one, the
-/// key is `'Harbour'`, there are 2 members, and the state is `Sum(7, 2)`.
+/// Example: of the records `'Harbour', 5` and `'Harbour', 2`, grouped by the first column and with
+/// SUM of the second one, the key is `'Harbour'`, there are 2 members, and the state is
+/// `Sum(7, 2)`.
 #[derive(Drop)]
 pub struct GroupEntry {
     /// A value for each grouping column.

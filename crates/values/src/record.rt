@@ -8,7 +8,8 @@ use std::marker::Model;
 
 /// The values of one line, in the order of the columns of a schema.
 ///
-/// A record may be made of any values. `Schema::fits` says whether they are those of a schema's columns.
+/// A record may be made of any values. `Schema::fits` says whether they are those of a schema's
+/// columns.
 ///
 /// Example: under `shop:text,cents:int` the line `{"cents":250,"shop":"Quay"}` is the record of the
 /// text `Quay` and the whole number 250, in this order.

@@ -14,7 +14,8 @@ use std::marker::Model;
 
 /// A column of a schema: the member of its name is taken, as its type says.
 ///
-/// Example: the part `cents:int` of a schema text is the column of the name `cents` and the type `Int`.
+/// Example: the part `cents:int` of a schema text is the column of the name `cents` and the type
+/// `Int`.
 #[derive(Debug, PartialEq, Eq, Drop)]
 pub struct Column {
     /// In a schema, one or more ASCII letters, digits and `_`, not beginning with a digit.
@@ -27,7 +28,8 @@ pub struct Column {
 ///
 /// Names are compared exactly: `Shop` and `shop` are two.
 ///
-/// Example: `shop:text,cents:int` is the text of a schema with two columns, `shop` the first of them.
+/// Example: `shop:text,cents:int` is the text of a schema with two columns, `shop` the first of
+/// them.
 #[derive(Debug, Drop)]
 pub struct Schema {
     columns: Vec<Column>,
@@ -50,8 +52,8 @@ impl Schema {
     ghost use Rattle.semantics.specs.Columns.{schema_of};
     ghost use Rattle.semantics.specs.Records.{Fits};
 
-    /// Reads a schema text: parts `name:type` joined by commas, without white space, the type `int`,
-    /// `text` or `bool`, as in `day:text,cents:int`.
+    /// Reads a schema text: parts `name:type` joined by commas, without white space, the type
+    /// `int`, `text` or `bool`, as in `day:text,cents:int`.
     ///
     /// Example: `Schema::parse(alloc, "shop:text,cents:int")` answers a schema of two columns; of
     /// `"shop"` it answers `UnknownType(1)`.
@@ -85,11 +87,11 @@ impl Schema {
         self.columns.as_slice()
     }
 
-    /// Whether a record has one value for each column, each NULL or of the column's type, with whole
-    /// numbers of 64 bits.
+    /// Whether a record has one value for each column, each NULL or of the column's type, with
+    /// whole numbers of 64 bits.
     ///
-    /// Example: the records that fit the schema `cents:int` have one value, a whole number from -2^63
-    /// to 2^63-1 or NULL.
+    /// Example: the records that fit the schema `cents:int` have one value, a whole number from
+    /// -2^63 to 2^63-1 or NULL.
     pub fn fits(&self, record: &Record) -> bool
         ensures fits { IsTrue result ↔ Fits self.now «record».now }
     {

@@ -7,8 +7,9 @@ use std::cmp::Ordering;
 /// A value of a record, a key or a result.
 ///
 /// Values are ordered by their type, truth values first, then whole numbers, then texts, then NULL;
-/// within a type False is before True, whole numbers are ordered as numbers and texts by their UTF-8
-/// bytes. Equality is that of grouping: NULL equals NULL, and values of two types are never equal.
+/// within a type False is before True, whole numbers are ordered as numbers and texts by their
+/// UTF-8 bytes. Equality is that of grouping: NULL equals NULL, and values of two types are never
+/// equal.
 ///
 /// Example: the whole number 2 is before 10, but the text `10` before the text `2`.
 #[derive(Clone, Debug, PartialEq, Eq, PartialOrd, Ord, Hash, Drop)]

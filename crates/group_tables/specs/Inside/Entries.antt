@@ -12,17 +12,17 @@ use Rattle.group_tables.specs.Values.{set_of}
 
 -- ---- what is kept of plain values
 
--- what SUM or AVG keeps: a sum, and how many numbers were added
+-- What SUM or AVG keeps: a sum, and how many numbers were added.
 abbrev pub kept_sum : ColumnFunction → ℤ → ℕ → AccumulatorState
 kept_sum (function.Avg place) s n = averaged s n
 kept_sum f s n = summed s n
 
--- what MIN or MAX keeps: a value
+-- What MIN or MAX keeps: a value.
 abbrev pub kept_extreme : ColumnFunction → Datum → AccumulatorState
 kept_extreme (function.Max place) d = highest d
 kept_extreme f d = lowest d
 
--- what a set function keeps of a plain state
+-- What a set function keeps of a plain state.
 abbrev pub kept_state : ColumnFunction → FunctionState → AccumulatorState
 kept_state f state.rows = nothing
 kept_state f (state.counted n) = counted n
@@ -30,12 +30,12 @@ kept_state f (state.summed s n) = kept_sum f s n
 kept_state f (state.extreme d) = kept_extreme f d
 kept_state f (state.collected values) = collected (set_of values)
 
--- what each set function keeps of its plain state
+-- What each set function keeps of its plain state.
 abbrev pub kept_states : List FilteredFunction → List FunctionState → List AccumulatorState
 kept_states [] ss = []
 kept_states (f ∷ fs) [] = []
 kept_states (f ∷ fs) (s ∷ ss) = kept_state f.function s ∷ kept_states fs ss
 
--- what a table keeps of a group of plain states
+-- What a table keeps of a group of plain states.
 abbrev pub kept_group : List FilteredFunction → EntryForm → GroupState
 kept_group functions entry = record { lines = entry.members; parts = kept_states functions entry.states }

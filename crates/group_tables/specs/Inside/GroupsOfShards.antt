@@ -10,17 +10,17 @@ use Rattle.group_tables.specs.Inside.Summaries.{entry_summaries}
 use Rattle.group_tables.specs.declared.group.Group.{Group}
 use Rattle.group_tables.specs.declared.shard.Shard.{Shard}
 
--- groups are those of a shard, in the order in which it has them
+-- Groups are those of a shard, in the order in which it has them.
 abbrev pub AreGroupsOfShard : Shard → List Group → Type 0
 AreGroupsOfShard shard groups = map group_summary_in groups ≡ entry_summaries (entries_in shard)
 
--- there is a part for each shard, which has its groups, where it was made
+-- There is a part for each shard, which has its groups, where it was made.
 abbrev pub AreGroupsOfEach : List Shard → List (Result (Vec Group) AllocError) → Type 0
 AreGroupsOfEach [] [] = Unit {0}
 AreGroupsOfEach [] (part ∷ parts) = ⊥
 AreGroupsOfEach (shard ∷ shards) [] = ⊥
 AreGroupsOfEach (shard ∷ shards) (part ∷ parts) = IfOk part (λ groups. AreGroupsOfShard shard groups.items) × AreGroupsOfEach shards parts
 
--- groups are those of shards, in some order
+-- Groups are those of shards, in some order.
 abbrev pub AreGroupsOfShards : List Shard → List Group → Type 0
 AreGroupsOfShards shards groups = IsPermutation (entry_summaries (all_entries shards)) (map group_summary_in groups)

@@ -16,11 +16,12 @@ use Rattle.group_tables.specs.Entries.{entry_at}
 use Rattle.group_tables.specs.Group.{GroupState}
 use Rattle.group_tables.specs.Keys.{key_in}
 
--- whether the key of one thing is before that of another one
+-- Whether the key of one thing is before that of another one.
 abbrev pub is_before : {T : Type 0} → Keyed T → Keyed T → Bool
 is_before a b = is_lt (parts_order (key_parts a.key) (key_parts b.key))
 
--- the code by which a group is put in order: that of its key with a 0 behind it, so that no code is the beginning of another one
+-- The code by which a group is put in order: that of its key with a 0 behind it, so that no code is
+-- the beginning of another one
 abbrev pub sort_code : Key → List ℕ
 sort_code key = values_code key ++ 0 ∷ []
 
@@ -28,7 +29,7 @@ sort_code key = values_code key ++ 0 ∷ []
 abbrev pub keyed_entry : Keyed GroupEntry → SortParts × EntryForm
 keyed_entry k = (key_parts k.key, entry_of k.thing)
 
--- those of a hashed map
+-- Those of a hashed map.
 abbrev pub keyed_at : PackedKey × GroupState → SortParts × EntryForm
 keyed_at e = (parts_of (sort_code (key_in e.0)), entry_at (key_in e.0, e.1))
 
@@ -36,6 +37,6 @@ keyed_at e = (parts_of (sort_code (key_in e.0)), entry_at (key_in e.0, e.1))
 abbrev pub keyed_value : Keyed Value → SortParts × Datum
 keyed_value k = (key_parts k.key, datum_of k.thing)
 
--- that of a value
+-- That of a value.
 abbrev pub keyed_datum : Datum → SortParts × Datum
 keyed_datum d = (parts_of (value_code d), d)

@@ -5,10 +5,10 @@ use Rattle.group_tables.specs.Shards.{contents_in}
 use Rattle.group_tables.specs.Table.{CanJoin, IsJoined}
 use Rattle.group_tables.specs.declared.pairs.Pair.{Pair}
 
--- the shard can take the groups of the other one
+-- The shard can take the groups of the other one.
 abbrev pub CanJoinPair : Pair → Type 0
 CanJoinPair pair = CanJoin (contents_in pair.shard) (contents_in pair.other)
 
--- where it says so, the shard has the groups of both now
+-- Where it says so, the shard has the groups of both now.
 abbrev pub HasJoined : Pair → Pair → Type 0
 HasJoined old new = new.is_joined ≡ true → (key : Key) → IsJoined (contents_in old.shard) (contents_in old.other) (contents_in new.shard) key

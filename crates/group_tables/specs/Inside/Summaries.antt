@@ -8,10 +8,10 @@ use Rattle.group_tables.specs.Group.{GroupState}
 use Rattle.group_tables.specs.Inside.Group.{state_summary}
 use Rattle.group_tables.specs.Table.{entries_by_key}
 
--- the summaries of the groups of entries
+-- The summaries of the groups of entries.
 abbrev pub entry_summaries : List (PackedKey × GroupState) → List GroupSummary
 entry_summaries entries = map state_summary (entries_by_key entries)
 
--- the summaries of groups, and behind them those of entries
+-- The summaries of groups, and behind them those of entries.
 abbrev pub summaries_with : List Group → List (PackedKey × GroupState) → List GroupSummary
 summaries_with groups entries = map group_summary_in groups ++ entry_summaries entries

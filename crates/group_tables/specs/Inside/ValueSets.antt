@@ -6,12 +6,12 @@ use Rattle.group_tables.specs.Inside.Values.{values_in}
 use Rattle.group_tables.specs.declared.value_set.ValueSet.{ValueSet}
 use Rattle.group_tables.specs.declared.value_set.ValueSet.TheVariants as value_set
 
--- the values of a set, in the order in which the code gives them
+-- The values of a set, in the order in which the code gives them.
 abbrev pub listed : ValueSet → List Value
 listed value_set.Empty = []
 listed (value_set.One value) = value.value ∷ []
 listed (value_set.Many values) = values.value.keys
 
--- the set that contracts see
+-- The set that contracts see.
 abbrev pub shown : ValueSet → Values
 shown values = values_in (listed values)

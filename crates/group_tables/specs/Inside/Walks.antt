@@ -5,6 +5,6 @@ use Rattle.std.specs.List.{flat_map}
 use Rattle.group_tables.specs.Group.{GroupState}
 use Rattle.group_tables.specs.declared.walk.Walk.{Walk}
 
--- the entries that walks have not come to, one walk after the other
+-- The entries that walks have not come to, one walk after the other.
 abbrev pub entries_left : List Walk → List (PackedKey × GroupState)
 entries_left walks = flat_map (λ walk. walk.entries) walks

@@ -19,19 +19,20 @@ use Rattle.tables.specs.Sound.{IsSoundUnder}
 use Rattle.tables.specs.States.{PartialState}
 use Rattle.jlreport_engine.specs.Inside.Run.{StopsRun}
 
--- the fault of a join that a refusal of parts is
+-- The fault of a join that a refusal of parts is.
 abbrev pub fault_of_parts : PartsRefusal → JoinFault
 fault_of_parts (refusal.Fault fault) = Parts fault
 fault_of_parts refusal.Reading = Run Reading
 fault_of_parts refusal.OutOfMemory = Run OutOfMemory
 
--- the fault says that so many refused lines are more than the limit
+-- The fault says that so many refused lines are more than the limit.
 abbrev pub IsOver : Option ℕ → ℕ → RunFault → Type 0
 IsOver limit count (TooManyRefused most) = (limit ≡ Some most) × (most < count)
 IsOver limit count fault = ⊥
 
--- Before anything is written a join fails by a fault of the parts, where no parts that can be joined were given, or
--- as a run may over the inputs whose parts were given, one behind the other, and over some input.
+-- Before anything is written a join fails by a fault of the parts, where no parts that can be
+-- joined were given, or as a run may over the inputs whose parts were given, one behind the other,
+-- and over some input.
 abbrev pub StopsJoin : JoinFault → Option ℕ → PlannedQuery → Option (List ℕ) → Type 0
 StopsJoin (Parts fault) limit plan given =
     (inputs : List (List ℕ)) → ArePartsOf plan.fields plan.query inputs given → ¬ CanBeJoined plan.fields plan.query inputs
@@ -39,9 +40,9 @@ StopsJoin (Run fault) limit plan given =
     StopsRun fault limit plan.fields None
     × ((inputs : List (List ℕ)) → ArePartsOf plan.fields plan.query inputs given → StopsRun fault limit plan.fields (Some (concatenated inputs)))
 
--- What was read is joined: the result is one that the plan can finish, not more of its lines are refused than the
--- limit, and it stands for the inputs whose parts were given, one behind the other. Or there is a fault, which is
--- none of a thread.
+-- What was read is joined: the result is one that the plan can finish, not more of its lines are
+-- refused than the limit, and it stands for the inputs whose parts were given, one behind the
+-- other. Or there is a fault, which is none of a thread.
 pub record IsJoined (result : Result PartialState JoinFault) (limit : Option ℕ) (plan : PlannedQuery) (given : Option (List ℕ)) : Type 0 where
   pub sound : IfOk result (IsSoundUnder plan)
   pub within : IfOk result (λ partial. IsWithin limit partial.refused)

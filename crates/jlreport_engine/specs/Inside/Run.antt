@@ -9,7 +9,8 @@ use Rattle.tables.specs.Partials.{StandsForInput}
 use Rattle.tables.specs.States.{PartialState}
 use Rattle.query_plan.specs.Planned.{PlannedQuery}
 
--- Bytes are read as an input is: they have as many lines, the same good records and the same refused lines.
+-- Bytes are read as an input is: they have as many lines, the same good records and the same
+-- refused lines.
 pub record AreReadAs (fields : List Field) (bytes input : List ℕ) : Type 0 where
   pub lines : length (lines bytes) ≡ length (lines input)
   pub valid : valid_records fields bytes ≡ valid_records fields input
@@ -25,8 +26,9 @@ pub record StandsForReading (plan : PlannedQuery) (partial : PartialState) (inpu
 abbrev pub StandsForKnown : PlannedQuery → Option (List ℕ) → PartialState → Type 0
 StandsForKnown plan known partial = IfSome known (StandsForReading plan partial)
 
--- What a fault says of the input, where that is known, before anything is written: that more of its lines are refused
--- than the limit, where it says so; of a read, of memory and of a thread it says nothing more.
+-- What a fault says of the input, where that is known, before anything is written: that more of its
+-- lines are refused than the limit, where it says so; of a read, of memory and of a thread it says
+-- nothing more.
 abbrev pub StopsRun : RunFault → Option ℕ → List Field → Option (List ℕ) → Type 0
 StopsRun Reading limit fields known = ⊤
 StopsRun OutOfMemory limit fields known = ⊤

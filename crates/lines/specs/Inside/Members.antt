@@ -12,7 +12,7 @@ use Rattle.values.specs.Schema.{fields_of}
 use Rattle.semantics.specs.declared.kind.Kind.{Kind}
 use Rattle.semantics.specs.Records.{data_taken, datum_taken}
 
--- the values are what the columns take of these members
+-- The values are what the columns take of these members.
 abbrev pub AreTaken : List Column → List Value → Members → Type 0
 AreTaken columns values found = map (λ d. Some d) (data_of values) ≡ data_taken (fields_of columns) found
 
@@ -35,7 +35,8 @@ pub record IsMemberAt (text : List ℕ) (at stop : ℕ) (columns : List Column) 
   pub value : IsValueAt text 126 start stop
   pub takes : (found : Members) → AreTaken columns old found → AreTaken columns new (put name value.meant found)
 
--- The members of an object stand from behind its brace on up to `stop`, behind the brace that closes it, and the columns take these values of them.
+-- The members of an object stand from behind its brace on up to `stop`, behind the brace that
+-- closes it, and the columns take these values of them.
 pub record AreMembersAt (text : List ℕ) (from stop : ℕ) (columns : List Column) (values : List Value) : Type 0 where
   pub within : stop ≤ length text
   pub found : Members

@@ -1,4 +1,5 @@
 //! The value of a member, as a column of its name takes it.
+
 ghost use Rattle.std.specs.Prelude.{◌≡◌, ◌<◌, ◌≤◌, IfSome, get_or, length};
 ghost use Rattle.semantics.specs.declared.kind.Kind.{Kind};
 ghost use Rattle.lines.specs.Inside.Members.{IsTakenAt};
@@ -8,8 +9,8 @@ use crate::spare::Spare;
 use lines_json::{bool_at, byte_at, null_end, plain_string_end, push_content, whole_number_at};
 use values::{Kind, Value};
 
-/// What a column of this type takes of the value that stands at a place, and where the value ends; `None` says nothing of
-/// the text.
+/// What a column of this type takes of the value that stands at a place, and where the value ends;
+/// `None` says nothing of the text.
 #[inline(always)]
 pub(crate) fn value_at(
     kind: Kind,

@@ -1,18 +1,19 @@
 //! The members of an object, one after another.
+
 ghost use Rattle.std.specs.Prelude.{◌≡◌, ◌≤◌, IfSome, length};
 ghost use Rattle.serde_json.specs.Data.{no_members};
 ghost use Rattle.values.specs.Schema.{IsSchema, fields_of};
 ghost use Rattle.lines.specs.Inside.Members.{AreMembersAt, AreTaken, IsMemberAt};
 
-use crate::bytes::name::name_at;
 use crate::bytes::member::value_at;
+use crate::bytes::name::name_at;
 use crate::columns::{MEMBER_DEPTH, place_found_from, put_at};
 use crate::spare::Spare;
 use lines_json::{byte_at, space_end, value_end};
 use values::{Column, Value};
 
-/// Takes the columns' values out of the members that stand behind the brace of an object; it answers where the object
-/// ends. `None` says nothing of the text.
+/// Takes the columns' values out of the members that stand behind the brace of an object; it
+/// answers where the object ends. `None` says nothing of the text.
 #[inline(always)]
 pub(crate) fn take_members(
     columns: &[Column],
@@ -49,8 +50,9 @@ pub(crate) fn take_members(
     }
 }
 
-/// Takes the value of the member that stands at a place, where a column has its name. It answers where the member ends,
-/// and the place of the column from which the next name is looked for; `None` says nothing of the text.
+/// Takes the value of the member that stands at a place, where a column has its name. It answers
+/// where the member ends, and the place of the column from which the next name is looked for;
+/// `None` says nothing of the text.
 #[inline(always)]
 fn take_member(
     columns: &[Column],

@@ -1,10 +1,12 @@
 //! The name of a member.
+
 ghost use Rattle.std.specs.Prelude.{◌≤◌, IfSome, length};
 ghost use Rattle.lines.specs.Inside.Members.{IsNameAt};
 
 use lines_json::{byte_at, plain_string_end, space_end};
 
-/// The name of the member that stands at a place, and where its value begins; `None` says nothing of the line.
+/// The name of the member that stands at a place, and where its value begins; `None` says nothing
+/// of the line.
 #[inline(always)]
 pub(crate) fn name_at(line: &[u8], at: usize) -> Option<(&[u8], usize)>
     requires { at ≤ length line.now }

@@ -1,4 +1,5 @@
 //! Taking the columns' values out of the members of an object, token by token.
+
 ghost use Rattle.std.specs.Prelude.{◌≡◌, ◌<◌, Some, length, IfSome};
 ghost use Rattle.serde_json.specs.Data.{Data, Members};
 ghost use Rattle.values.specs.Datum.{datum_of};
@@ -42,7 +43,8 @@ pub(crate) fn take_members(
     Some(values)
 }
 
-/// Takes the value of a member as a column of this type takes it; `None` says nothing of the member.
+/// Takes the value of a member as a column of this type takes it; `None` says nothing of the
+/// member.
 fn take_value(kind: Kind, reader: &mut Reader<'_>, spare: &mut Spare) -> Option<Value>
     ensures taken { IfSome result (λ v. (d : Data)
         × IsValue MEMBER_DEPTH reader.old d reader.new

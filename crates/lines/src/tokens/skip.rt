@@ -1,4 +1,5 @@
 //! Skipping a JSON value that no column takes.
+
 ghost use Rattle.std.specs.Prelude.{◌<◌, length, IfSome};
 ghost use Rattle.serde_json.specs.Data.{Data, Items, Members};
 ghost use Rattle.lines_json.specs.Meant.{AreItems, AreMembers, IsValue};

@@ -11,11 +11,12 @@ use Rattle.serde_json.specs.Data.{Items, Members}
 use Rattle.lines_json.specs.Meant.{AreItems, AreMembers}
 use Rattle.lines_json.specs.Standing.{lexemes}
 
--- this byte ends the word before it
+-- This byte ends the word before it.
 abbrev pub is_word_end : ℕ → Bool
 is_word_end x = is_operator x || is_space x
 
--- The plain text from a place on ends here: before the first quote, backslash or control byte, or at the end of the text.
+-- The plain text from a place on ends here: before the first quote, backslash or control byte, or
+-- at the end of the text.
 pub record IsPlainEnd (text : List ℕ) (from stop : ℕ) : Type 0 where
   pub value : stop ≡ from + prefix_len is_plain (drop from text)
   pub within : stop ≤ length text
@@ -25,14 +26,16 @@ pub record IsPart (mode : Mode) (state : Within) (text bytes rest : List ℕ) : 
   pub means : content state text ≡ prepend bytes (content plain rest)
   pub passes : lex mode text ≡ lex in_string rest
 
--- Such a part stands at a place, ends with an ASCII byte before another place, and means these bytes.
+-- Such a part stands at a place, ends with an ASCII byte before another place, and means these
+-- bytes.
 pub record IsPartAt (mode : Mode) (state : Within) (text : List ℕ) (at stop : ℕ) (bytes : List ℕ) : Type 0 where
   pub later : at < stop
   pub within : stop ≤ length text
   pub last : get_or text (stop - 1) 0 < 128
   pub part : IsPart mode state (drop at text) bytes (drop stop text)
 
--- The escape whose backslash stands before a place ends before another one, and means this character.
+-- The escape whose backslash stands before a place ends before another one, and means this
+-- character.
 abbrev pub IsEscapeAt : List ℕ → (at stop : ℕ) → (meant : ℕ) → Type 0
 IsEscapeAt text at stop meant = IsPartAt in_escape after_backslash text at stop (encode_utf8 meant)
 
@@ -42,25 +45,28 @@ pub record IsShortEscape (letter meant : ℕ) : Type 0 where
   pub meant_ascii : meant < 128
   pub is : short_escape letter ≡ Some meant
 
--- the code unit that the four hexadecimal digits at a place spell
+-- The code unit that the four hexadecimal digits at a place spell.
 abbrev pub code_unit_at : List ℕ → ℕ → Option ℕ
 code_unit_at text at = code_unit (get_or text at 0) (get_or text (at + 1) 0) (get_or text (at + 2) 0) (get_or text (at + 3) 0)
 
--- A member's name stands at a place, with the colon behind it, and white space alone is between the colon and another place.
+-- A member's name stands at a place, with the colon behind it, and white space alone is between the
+-- colon and another place.
 pub record IsNameAt (text : List ℕ) (at start : ℕ) : Type 0 where
   pub later : at < start
   pub within : start ≤ length text
   pub name : List ℕ
   pub stands : lexemes text at ≡ token (string name) ∷ colon ∷ lexemes text start
 
--- The items of an array stand at a place, behind the opening bracket, and the closing bracket ends before another place.
+-- The items of an array stand at a place, behind the opening bracket, and the closing bracket ends
+-- before another place.
 pub record AreItemsAt (text : List ℕ) (depth at stop : ℕ) : Type 0 where
   pub later : at < stop
   pub within : stop ≤ length text
   pub meant : Items
   pub stand : AreItems depth (punctuate fresh (lexemes text at)) meant (punctuate after_value (lexemes text stop))
 
--- The members of an object stand at a place, behind the opening brace, and the closing brace ends before another place.
+-- The members of an object stand at a place, behind the opening brace, and the closing brace ends
+-- before another place.
 pub record AreMembersAt (text : List ℕ) (depth at stop : ℕ) : Type 0 where
   pub later : at < stop
   pub within : stop ≤ length text

@@ -16,7 +16,8 @@ pub record IsNumberPart (part : List ℕ → Option (List ℕ)) (text : List ℕ
 abbrev pub after_unsigned : List ℕ → Option (List ℕ)
 after_unsigned rest = option_and_then after_exponent (option_and_then after_fraction (after_whole rest))
 
--- A number of up to 18 digits stands at a place, without sign, fraction and exponent, and behind it a word ends.
+-- A number of up to 18 digits stands at a place, without sign, fraction and exponent, and behind it
+-- a word ends.
 pub record AreDigitsAt (text : List ℕ) (from stop n : ℕ) : Type 0 where
   pub part : IsNumberPart after_unsigned text from stop
   pub some : from < stop

@@ -10,7 +10,7 @@ digit_zero = 48
 abbrev pub colon : ℕ
 colon = 58
 
--- how many digits there are in the base of hexadecimal numbers
+-- How many digits there are in the base of hexadecimal numbers.
 abbrev pub hexadecimal : ℕ
 hexadecimal = 16
 

@@ -1,4 +1,5 @@
 //! Whole numbers of up to 18 digits, in one pass over their bytes.
+
 ghost use Rattle.std.specs.Prelude.{◌≡◌, ◌<◌, ◌≤◌, ◌-◌, IfSome, IsTrue, drop, get_or, length, take, true};
 ghost use Rattle.std.specs.Str.Parse.{AllDigits, digits_value};
 ghost use Rattle.lines_json.specs.Inside.Contents.{is_word_end};
@@ -10,7 +11,8 @@ ghost use Rattle.lines_json.specs.declared.numbers.short.TheConstants.{MOST_DIGI
 
 use crate::bytes::{byte_at, ends_word};
 
-/// The whole number of up to 18 digits that stands at a place, and where it ends; `None` says nothing of the text.
+/// The whole number of up to 18 digits that stands at a place, and where it ends; `None` says
+/// nothing of the text.
 ///
 /// Example: of the text `[-12]` it answers `(-12, 4)` at 1, and of `[1.5]` it answers `None` there.
 #[inline(always)]
@@ -67,7 +69,8 @@ fn leading_digits(text: &[u8]) -> (u64, usize)
     (size, count)
 }
 
-/// Whether so many digits of a text are a number: no zero before another digit, and then the end of the word.
+/// Whether so many digits of a text are a number: no zero before another digit, and then the end of
+/// the word.
 #[inline(always)]
 fn is_whole(text: &[u8], count: usize) -> bool
     requires { count ≤ length text.now }

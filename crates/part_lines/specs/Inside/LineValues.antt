@@ -9,7 +9,8 @@ use Rattle.part_lines.specs.LineValues.{IsTextOf}
 abbrev pub IsNoLiteralName : List ℕ → Type 0
 IsNoLiteralName line = ¬ IsTextOf line (boolean true) × ¬ IsTextOf line (boolean false) × ¬ IsTextOf line null
 
--- Of a line a reader of some of the values tells which of them has it as its text, or that none has.
+-- Of a line a reader of some of the values tells which of them has it as its text, or that none
+-- has.
 abbrev pub TellsAmong : {X : Type 0} → (X → Datum) → List ℕ → Option Value → Type 0
 TellsAmong some line (Some value) = IsTextOf line (datum_of value)
 TellsAmong {X} some line None = (x : X) → ¬ IsTextOf line (some x)

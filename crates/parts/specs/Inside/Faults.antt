@@ -21,8 +21,8 @@ refusal_in part refusal.OutOfMemory = of_parts.OutOfMemory
 
 -- ---- what a call says of a reading
 
--- Where a call is refused, the reading has that fault; where a read failed, or without memory, nothing
--- is known of it.
+-- Where a call is refused, the reading has that fault; where a read failed, or without memory,
+-- nothing is known of it.
 abbrev pub RefusesParts : {Y : Type 0} → PartsRefusal → Result Y PartedFault → Type 0
 RefusesParts (of_parts.Fault fault) read = read ≡ Err (parted_of fault)
 RefusesParts of_parts.Reading read = ⊤

@@ -15,11 +15,11 @@ use Rattle.tables.specs.States.{PartialState}
 use Rattle.group_tables.specs.Entries.{IsBehind, IsEntryFor}
 use Rattle.parts.specs.declared.gather.Gathering.{Gathering}
 
--- the key of a group
+-- The key of a group.
 abbrev pub key_of : GroupEntry → Key
 key_of group = (entry_of group).key
 
--- the groups of a result, and behind them the one that was read last, where it is not among them
+-- The groups of a result, and behind them the one that was read last, where it is not among them.
 abbrev pub last_of : Option GroupEntry → List EntryForm
 last_of None = []
 last_of (Some group) = entry_of group ∷ []
@@ -27,7 +27,7 @@ last_of (Some group) = entry_of group ∷ []
 abbrev pub groups_of : Gathering → List EntryForm
 groups_of so_far = groups_in so_far.partial ++ last_of so_far.last
 
--- how many members the last group has
+-- How many members the last group has.
 abbrev pub last_members : Option GroupEntry → ℕ
 last_members None = 0
 last_members (Some group) = group.members
@@ -42,8 +42,8 @@ abbrev pub IsLastOf : PlannedQuery → PartialState → Option GroupEntry → Ty
 IsLastOf plan partial None = ⊤
 IsLastOf plan partial (Some group) = IsNextOf plan partial (entry_of group)
 
--- A result is one that a plan can finish; the last group that was read can be put to it, and with it and so many members
--- more the groups have at most as many members as there are lines.
+-- A result is one that a plan can finish; the last group that was read can be put to it, and with
+-- it and so many members more the groups have at most as many members as there are lines.
 pub record CanHold (plan : PlannedQuery) (partial : PartialState) (last : Option GroupEntry) (left : ℕ) : Type 0 where
   pub sound : IsSoundUnder plan partial
   pub is_next : IsLastOf plan partial last
@@ -51,14 +51,14 @@ pub record CanHold (plan : PlannedQuery) (partial : PartialState) (last : Option
   pub within : HasMembersWithin members partial
   pub room : members + last_members last + left ≤ partial.lines
 
--- so it is with what was gathered so far, before the first group of which the result has none
+-- So it is with what was gathered so far, before the first group of which the result has none.
 pub record IsGathering (plan : PlannedQuery) (so_far : Gathering) : Type 0 where
   pub can : CanHold plan so_far.partial so_far.last so_far.left
   pub first : so_far.last ≡ None → groups_in so_far.partial ≡ []
 
 -- ---- what a result of one piece contains
 
--- the refused lines of the first note
+-- The refused lines of the first note.
 abbrev pub first_refused : List Noted → List (ℕ × LineFault)
 first_refused [] = []
 first_refused (note ∷ notes) = note.refused
@@ -66,7 +66,7 @@ first_refused (note ∷ notes) = note.refused
 abbrev pub refused_in : PartialState → List (ℕ × LineFault)
 refused_in partial = first_refused partial.notes
 
--- so many lines, these refused ones, and these groups
+-- So many lines, these refused ones, and these groups.
 abbrev pub contents_in : PartialState → ContentsForm
 contents_in partial = record { lines = partial.lines; refused = refused_in partial; groups = groups_in partial }
 
@@ -74,6 +74,6 @@ contents_in partial = record { lines = partial.lines; refused = refused_in parti
 abbrev pub IsOfOnePiece : PartialState → Type 0
 IsOfOnePiece partial = HasRefusals partial.lines (refused_in partial) partial
 
--- what was gathered so far, with the last group
+-- What was gathered so far, with the last group.
 abbrev pub contents_of : Gathering → ContentsForm
 contents_of so_far = record { lines = so_far.partial.lines; refused = refused_in so_far.partial; groups = groups_of so_far }

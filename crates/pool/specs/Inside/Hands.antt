@@ -4,7 +4,7 @@ use mathlib.Core.Option.{some}
 use lib.ListN.{get_elem?}
 use Rattle.pool.specs.Seen.{Seen, Took}
 
--- one of these gained the number, or nothing changed
+-- One of these gained the number, or nothing changed.
 abbrev pub Steals : List Seen → Option ℕ → List Seen → Type 0
 Steals ss None ts = ts ≡ ss
 Steals ss (Some x) ts =

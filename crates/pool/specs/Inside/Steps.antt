@@ -2,21 +2,21 @@
 use Rattle.std.specs.Prelude.{◌≡◌, ℕ, suc, ◌+◌, ◌≤◌, List, ◌∷◌, []}
 use Rattle.pool.specs.Dealing.{times}
 
--- how often x stands in these lists
+-- How often x stands in these lists.
 abbrev pub times_in_lists : ℕ → List (ℕ × List ℕ) → ℕ
 times_in_lists x [] = 0
 times_in_lists x (p ∷ ps) = times x p.1 + times_in_lists x ps
 
--- at most b, and just b where this holds
+-- At most b, and just b where this holds.
 abbrev pub UpTo : Type 0 → ℕ → ℕ → Type 0
 UpTo all a b = (a ≤ b) × (all → a ≡ b)
 
--- these are the hands from the place k up
+-- These are the hands from the place k up.
 abbrev pub Up : ℕ → List (ℕ × List ℕ) → Type 0
 Up k [] = Unit {0}
 Up k (p ∷ ps) = (p.0 ≡ k) × Up (suc k) ps
 
--- the hand is none of these
+-- The hand is none of these.
 abbrev pub Apart : ℕ → List (ℕ × List ℕ) → Type 0
 Apart hand [] = Unit {0}
 Apart hand (p ∷ ps) = (p.0 ≡ hand → ⊥) × Apart hand ps

@@ -3,6 +3,7 @@ use Rattle.std.specs.Prelude.{◌≡◌, ◌≤◌}
 use Rattle.pool.specs.declared.view.View.{View}
 use Rattle.pool.specs.Rule.{view_of}
 
--- the view of an owner after it looked at what others know: the end marks that it is owed did not become fewer
+-- The view of an owner after it looked at what others know: the end marks that it is owed did not
+-- become fewer
 abbrev pub Looked : View → View → Type 0
 Looked v w = (w ≡ view_of v.filling v.owner w.ends v.made v.numbers v.known) × (v.ends ≤ w.ends)

@@ -17,7 +17,7 @@ use Rattle.query_eval.specs.Binding.{ScopeForm, AreValuesOf}
 abbrev pub record_scope : List Field → ScopeForm
 record_scope fields = record { fields = fields; clause = clause.Where; count = length fields; value = record_value fields }
 
--- the same of the parts of an OR or an AND
+-- The same of the parts of an OR or an AND.
 abbrev pub GivesParts : ScopeForm → Predicates → List Condition → Type 0
 GivesParts scope ps cs = (values : List Datum) → map (λ truth. truth values) (map condition_truth cs) ≡ truths (scope.value values) ps
 

@@ -1,4 +1,5 @@
--- What the private functions of this crate read in front of a text, one definition for each function, as it computes it.
+-- What the private functions of this crate read in front of a text, one definition for each
+-- function, as it computes it.
 use Rattle.std.specs.Prelude.{ℕ, List, ◌++◌, Option, Some}
 use Rattle.query_lexer.specs.Options.{◌>>=◌}
 

@@ -1,5 +1,6 @@
--- What the functions of atoms read in front of tokens, one definition for each function, as it computes it.
--- What tokens derive is said in Predicates. Where a FILTER may stand, inside is what may stand in its brackets.
+-- What the functions of atoms read in front of tokens, one definition for each function, as it
+-- computes it. What tokens derive is said in Predicates. Where a FILTER may stand, inside is what
+-- may stand in its brackets.
 use Rattle.std.specs.Prelude.{ℕ, Result, Ok, Bool, true, false, List}
 use Rattle.semantics.specs.declared.token.Token.{Token}
 use Rattle.query_parser.specs.Inside.Stops.{Stop}
@@ -55,7 +56,8 @@ atom_after inside x ts = choose (op_at ts)
 unfoldable pub test_after : Predicate → Reader Predicate
 test_after p ts = choose (after (is_word w.Is) ts) (Ok (p, ts)) (λ a. truth_at (mark_at a).1 >>= λ t. Ok (truth_test p (mark_at a).0 t.0, t.1))
 
--- An operand and what stands behind its IS: NULL, and maybe a truth test of that; or the truth test of a bare name.
+-- An operand and what stands behind its IS: NULL, and maybe a truth test of that; or the truth test
+-- of a bare name.
 unfoldable pub is_after : Operand → Reader Predicate
 is_after x ts = choose (after (is_word w.Null) (mark_at ts).1)
     (column_of x (mark_at ts).1 >>= λ p. truth_at (mark_at ts).1 >>= λ t. Ok (truth_test p (mark_at ts).0 t.0, t.1))

@@ -1,5 +1,6 @@
--- What the functions of expressions read in front of tokens, one definition for each function, as it computes it.
--- What tokens derive is said in Predicates. Where a FILTER may stand, inside is what may stand in its brackets.
+-- What the functions of expressions read in front of tokens, one definition for each function, as
+-- it computes it. What tokens derive is said in Predicates. Where a FILTER may stand, inside is
+-- what may stand in its brackets.
 use Rattle.std.specs.Prelude.{Bool, true, false, cond, List, ◌∷◌, Ok, []}
 use Rattle.semantics.specs.declared.token.Token.{Token}
 use Rattle.semantics.specs.declared.token.Token.TheVariants as tokens
@@ -13,7 +14,8 @@ use Rattle.query_parser.specs.Inside.Fronts.{is_word, is_sign, after}
 use Rattle.query_parser.specs.Inside.Steps.{Reader, over, found_or_unexpected, name_at}
 use Rattle.query_parser.specs.Inside.LeafSteps.{aggregate_at, arguments_at}
 
--- What may stand in brackets: within which limits, whether a level of them is left, and what reads the predicate there.
+-- What may stand in brackets: within which limits, whether a level of them is left, and what reads
+-- the predicate there.
 pub record Inside : Type 0 where
   pub limits : Limits
   pub has_level : Bool

@@ -1,5 +1,5 @@
--- Which token stands in front of a list of tokens, as the functions of this crate test it. What tokens derive is said in
--- Leaves.
+-- Which token stands in front of a list of tokens, as the functions of this crate test it. What
+-- tokens derive is said in Leaves.
 use Rattle.std.specs.Prelude.{ℕ, List, ◌∷◌, Option, Some, None, Bool, false, ◌==◌, cond, []}
 use Rattle.semantics.specs.declared.token.Token.{Token}
 use Rattle.semantics.specs.declared.token.Token.TheVariants as tokens

@@ -1,5 +1,6 @@
--- What the functions of units, sets and groups read in front of tokens, one definition for each function, as it computes
--- it. No public contract rests on this file: what tokens derive is said in Grammar.
+-- What the functions of units, sets and groups read in front of tokens, one definition for each
+-- function, as it computes it. No public contract rests on this file: what tokens derive is said in
+-- Grammar.
 use Rattle.std.specs.Prelude.{ℕ, zero, suc, Bool, true, false, List, ◌∷◌, length, Option, None, Ok, []}
 use Rattle.semantics.specs.declared.token.Token.{Token}
 use Rattle.semantics.specs.declared.token.Token.TheVariants as tokens
@@ -53,7 +54,8 @@ element_at nested ts = choose (after (is_word w.Rollup) ts)
     (λ a. units_at a >>= λ us. Ok (cube us.0, us.1)))
     (λ a. units_at a >>= λ us. Ok (rollup us.0, us.1))
 
--- What stands behind GROUPING: SETS and its bracketed elements, with at most n levels of GROUPING SETS in all.
+-- What stands behind GROUPING: SETS and its bracketed elements, with at most n levels of GROUPING
+-- SETS in all.
 unfoldable pub sets_at : ℕ → Reader GroupingElement
 sets_at zero ts = over ts
 sets_at (suc n) ts = found_or_unexpected (after (is_word w.Sets)) ts >>= λ a. enclosed_at any_front (element_at (sets_at n)) a >>= λ gs. Ok (sets (element_forms gs.0), gs.1)

@@ -1,5 +1,5 @@
--- What the functions of keys read in front of tokens, one definition for each function, as it computes it. No public
--- contract rests on this file: what tokens derive is said in Grammar.
+-- What the functions of keys read in front of tokens, one definition for each function, as it
+-- computes it. No public contract rests on this file: what tokens derive is said in Grammar.
 use Rattle.std.specs.Prelude.{Bool, true, false, List, Ok, []}
 use Rattle.semantics.specs.declared.token.Token.{Token}
 use Rattle.semantics.specs.declared.token.Word.TheVariants as w

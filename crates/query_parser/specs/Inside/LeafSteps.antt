@@ -1,5 +1,5 @@
--- What the functions of leaves read in front of tokens, one definition for each function, as it computes it. What tokens
--- derive is said in Leaves.
+-- What the functions of leaves read in front of tokens, one definition for each function, as it
+-- computes it. What tokens derive is said in Leaves.
 use Rattle.std.specs.Prelude.{◌-◌, ℕ, List, ◌∷◌, Option, Some, None, is_some, Ok, Bool, true, false, []}
 use Rattle.semantics.specs.declared.comparison.Op.{Op}
 use Rattle.semantics.specs.declared.comparison.Op.TheVariants as op

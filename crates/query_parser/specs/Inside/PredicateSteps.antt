@@ -1,5 +1,5 @@
--- What the functions of predicates read in front of tokens, one definition for each function, as it computes it.
--- What tokens derive is said in Predicates.
+-- What the functions of predicates read in front of tokens, one definition for each function, as it
+-- computes it. What tokens derive is said in Predicates.
 use Rattle.std.specs.Prelude.{ℕ, zero, suc, Bool, true, false, List, length, Ok}
 use Rattle.semantics.specs.declared.token.Token.{Token}
 use Rattle.semantics.specs.declared.token.Word.TheVariants as w

@@ -1,5 +1,6 @@
--- What the functions of items and whole queries read in front of tokens, one definition for each function,
--- as it computes it. No public contract rests on this file: what tokens derive is said in Grammar.
+-- What the functions of items and whole queries read in front of tokens, one definition for each
+-- function, as it computes it. No public contract rests on this file: what tokens derive is said in
+-- Grammar.
 use Rattle.std.specs.Prelude.{◌-◌, ℕ, suc, Bool, true, false, List, ◌∷◌, Option, Some, None, Result, Ok, cond, codes, []}
 use Rattle.std.specs.Str.{bytes_eq}
 use Rattle.semantics.specs.declared.token.Token.{Token}

@@ -1,5 +1,6 @@
--- How the functions of the grammar read what stands in front of tokens, and where they stop, one definition for each step,
--- as it is computed. The grammar of queries is proved sound and complete over these. What tokens derive is said in Leaves.
+-- How the functions of the grammar read what stands in front of tokens, and where they stop, one
+-- definition for each step, as it is computed. The grammar of queries is proved sound and complete
+-- over these. What tokens derive is said in Leaves.
 use Rattle.std.specs.Prelude.{◌≡◌, ℕ, zero, suc, Bool, cond, List, ◌∷◌, ◌++◌, length, Option, Some, None, is_some, Result, Ok, Err, []}
 use Rattle.query_parser.specs.declared.fault.GrammarFault.{GrammarFault}
 use Rattle.query_parser.specs.Inside.Stops.{Stop}

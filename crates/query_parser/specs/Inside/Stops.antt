@@ -3,7 +3,8 @@ use Rattle.std.specs.Prelude.{ℕ}
 use Rattle.query_parser.specs.declared.fault.GrammarFault.{GrammarFault}
 use Rattle.query_parser.specs.declared.fault.GrammarFault.TheVariants as faults
 
--- A token, or the end, is not expected, or what stands before it is too much; with the number of the tokens that are left.
+-- A token, or the end, is not expected, or what stands before it is too much; with the number of
+-- the tokens that are left.
 pub data Stop : Type 0 where
   unexpected : ℕ → Stop
   over_limit : ℕ → Stop

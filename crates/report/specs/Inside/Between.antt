@@ -5,13 +5,13 @@ use Rattle.std.specs.Io.KnownBytes.{Appends}
 use Rattle.csv.specs.declared.writer.Writer.{Writer}
 use Rattle.csv.specs.Writing.{fields_written, has_written, text_written, writer_setup, default_writer}
 
--- the writer has written whole rows, by the defaults of the crate
+-- The writer has written whole rows, by the defaults of the crate.
 pub record IsBetweenRows {W : Type 0} (w : Writer W) : Type 0 where
   pub fields : fields_written w ≡ 0
   pub wrote : has_written w ≡ false
   pub setup : writer_setup w ≡ default_writer
 
--- the bytes that a writer into memory has written, where it knows them
+-- The bytes that a writer into memory has written, where it knows them.
 abbrev pub text_in : Writer (Vec ℕ) → Option (List ℕ)
 text_in writer = text_written (λ v. Some v.items) writer
 

@@ -11,6 +11,6 @@ use Rattle.report.specs.Inside.Text.{rows_bytes}
 abbrev pub IsTextOf : List (List CellValue) → List ℕ → Type 0
 IsTextOf rows text = text ≡ rows_bytes rows
 
--- each text that was made has the bytes of its part of the rows
+-- Each text that was made has the bytes of its part of the rows.
 abbrev pub AreTextsOf : ℕ → List (List CellValue) → List (Result (Vec ℕ) AllocError) → Type 0
 AreTextsOf size rows texts = AreOfParts IsTextOf size rows texts

@@ -7,6 +7,6 @@ use Rattle.semantics.specs.Texts.{cell_field}
 
 -- ---- the report
 
--- the bytes of rows: each as CSV, with commas, line feeds, and quotes where they are needed
+-- The bytes of rows: each as CSV, with commas, line feeds, and quotes where they are needed.
 abbrev pub rows_bytes : List (List CellValue) → List ℕ
 rows_bytes rows = flat_map (row_text default_writer) (map (map cell_field) rows)

@@ -4,6 +4,6 @@ use Rattle.query_plan.specs.Planned.{PlannedQuery}
 use Rattle.semantics.specs.ResultRows.{ResultRow}
 use Rattle.group_tables.specs.Fitting.{AreFitting}
 
--- the row of a group fits the query
+-- The row of a group fits the query.
 abbrev pub FitsUnder : PlannedQuery → ResultRow → Type 0
 FitsUnder plan row = AreFitting plan.fields plan.query (row ∷ [])

@@ -34,51 +34,55 @@ use Rattle.report_rows.specs.Parts.{AreOfParts}
 
 -- ---- values
 
--- the value that the row of a group has at a source; an average is no single value, and is NULL
+-- The value that the row of a group has at a source; an average is no single value, and is NULL.
 abbrev pub value_at_source : Group → ValueSource → Datum
 value_at_source group source = cell_value (shown_at (data_of group.key.items) (map summary_of group.cells.items) source)
 
--- the same, apart from where the group lies in memory
+-- The same, apart from where the group lies in memory.
 abbrev pub value_there : ResultRow → ValueSource → Datum
 value_there row source = cell_value (shown_at row.1.key row.1.cells source)
 
 -- ---- keys beside where rows have their values
 
--- a key of ORDER BY, and where the rows of each grouping set have its value, apart from where they lie in memory
+-- a key of ORDER BY, and where the rows of each grouping set have its value, apart from where they
+-- lie in memory
 abbrev pub CodedForm : Type 0
 CodedForm = SortKey × List ValueSource
 
 abbrev pub coded_form : CodedKey → CodedForm
 coded_form coded = (key_form coded.key.now, coded.sources.items)
 
--- the value that a row has where its grouping set has that of the key, and NULL where the set has nothing
+-- The value that a row has where its grouping set has that of the key, and NULL where the set has
+-- nothing
 abbrev pub coded_value : ResultRow → CodedForm → Datum
 coded_value row c = slice_index_or (map (value_there row) c.1) row.0 null
 
--- how two rows stand to each other by the values that they have there: as under the first key that tells them apart
+-- How two rows stand to each other by the values that they have there: as under the first key that
+-- tells them apart
 abbrev pub under_coded : List CodedForm → ResultRow → ResultRow → Ordering
 under_coded [] x y = Equal
 under_coded (c ∷ cs) x y = ordering_then (compare_by_key c.0 (coded_value x c) (coded_value y c)) (under_coded cs x y)
 
 -- ---- the code of a row
 
--- the code of the value of a key for a row
+-- The code of the value of a key for a row.
 abbrev pub coded_code : ResultRow → CodedForm → List ℕ
 coded_code row c = key_code c.0 (coded_value row c)
 
--- those of keys, one after the other
+-- Those of keys, one after the other.
 abbrev pub keys_code : ResultRow → List CodedForm → List ℕ
 keys_code row cs = flat_map (coded_code row) cs
 
--- the code by which a row is put in order: those of its values for keys, then that of the index of its grouping set, and then those of the values of its key
+-- The code by which a row is put in order: those of its values for keys, then that of the index of
+-- its grouping set, and then those of the values of its key
 abbrev pub row_code : List CodedForm → ResultRow → List ℕ
 row_code cs row = keys_code row cs ++ (index_code row.0 ++ values_code row.1.key)
 
--- the values of a row for keys have codes of their own
+-- The values of a row for keys have codes of their own.
 abbrev pub AreCodable : ResultRow → List CodedForm → Type 0
 AreCodable row cs = AllByRecursion (λ c. IsCodable (coded_value row c)) cs
 
--- so have all that the code of a row is of
+-- So have all that the code of a row is of.
 pub record IsCodableRow (cs : List CodedForm) (row : ResultRow) : Type 0 where
   pub values : AreCodable row cs
   pub index : row.0 < 2 ^ 64
@@ -86,104 +90,106 @@ pub record IsCodableRow (cs : List CodedForm) (row : ResultRow) : Type 0 where
 
 -- ---- keys that have the values of an earlier one
 
--- what is there is the value at this place of a group's key
+-- What is there is the value at this place of a group's key.
 abbrev pub is_key_at : ℕ → ValueSource → Bool
 is_key_at place (KeyAt at) = at == place
 is_key_at place (CellAt at) = false
 is_key_at place (Always value) = false
 
--- what is there is the cell at this place
+-- What is there is the cell at this place.
 abbrev pub is_cell_at : ℕ → ValueSource → Bool
 is_cell_at place (KeyAt at) = false
 is_cell_at place (CellAt at) = at == place
 is_cell_at place (Always value) = false
 
--- what is there is this value for all rows
+-- What is there is this value for all rows.
 abbrev pub is_always : Datum → ValueSource → Bool
 is_always d (KeyAt at) = false
 is_always d (CellAt at) = false
 is_always d (Always value) = same_value d (datum_of value)
 
--- two sources are the same
+-- Two sources are the same.
 abbrev pub is_same_source : ValueSource → ValueSource → Bool
 is_same_source (KeyAt place) other = is_key_at place other
 is_same_source (CellAt place) other = is_cell_at place other
 is_same_source (Always value) other = is_always (datum_of value) other
 
--- and so are these, one by one
+-- And so are these, one by one.
 abbrev pub are_same_sources : List ValueSource → List ValueSource → Bool
 are_same_sources [] [] = true
 are_same_sources [] (b ∷ others) = false
 are_same_sources (a ∷ more) [] = false
 are_same_sources (a ∷ more) (b ∷ others) = is_same_source a b && are_same_sources more others
 
--- rows have their values for one of the keys at these sources
+-- Rows have their values for one of the keys at these sources.
 abbrev pub is_repeated : List CodedForm → List ValueSource → Bool
 is_repeated [] sources = false
 is_repeated (c ∷ cs) sources = are_same_sources c.1 sources || is_repeated cs sources
 
--- keys, and one behind them unless it has the values of one of them
+-- Keys, and one behind them unless it has the values of one of them.
 abbrev pub with_key : List CodedForm → CodedForm → List CodedForm
 with_key cs c = if is_repeated cs c.1 then cs else cs ++ c ∷ []
 
--- the keys tell the rows of grouping sets apart as these keys of ORDER BY do
+-- The keys tell the rows of grouping sets apart as these keys of ORDER BY do.
 abbrev pub AreTelling : List CodedForm → List SortKey → List Field → Query → Type 0
 AreTelling cs ks fields t = (x y : ResultRow) → x.0 < length (sets_of fields t) → y.0 < length (sets_of fields t) → under_coded cs x y ≡ compare_by_keys fields t ks x y
 
 -- ---- keys that say what the group's key says
 
--- the first of the sources is the value at this place of a group's key
+-- The first of the sources is the value at this place of a group's key.
 abbrev pub is_first_at : ℕ → List ValueSource → Bool
 is_first_at place sources = option_map_or (is_key_at place) (slice_get sources 0) false
 
--- a key is default, ascending with NULL last, and the rows of the first grouping set have its value at this place of a group's key
+-- a key is default, ascending with NULL last, and the rows of the first grouping set have its value
+-- at this place of a group's key
 abbrev pub is_default_at : ℕ → CodedForm → Bool
 is_default_at place c = not c.0.descending && (not c.0.nulls_first && is_first_at place c.1)
 
--- keys are the default order of the values of a group's key from a place on
+-- Keys are the default order of the values of a group's key from a place on.
 abbrev pub are_default_from : ℕ → List CodedForm → Bool
 are_default_from place [] = true
 are_default_from place (c ∷ cs) = is_default_at place c && are_default_from (suc place) cs
 
--- the keys behind so many of them are the beginning of the default order
+-- The keys behind so many of them are the beginning of the default order.
 abbrev pub are_default_behind : ℕ → List CodedForm → Bool
 are_default_behind count cs = are_default_from 0 (drop count cs)
 
--- the index of a row is that of a grouping set, and its key has a value for each column of the set
+-- The index of a row is that of a grouping set, and its key has a value for each column of the set.
 abbrev pub HasKeyOf : List Field → Query → ResultRow → Type 0
 HasKeyOf fields t row = (row.0 < length (sets_of fields t)) × (length row.1.key ≡ length (set_of fields t row))
 
--- how two rows stand to each other under keys, then by the index of their grouping set, and in one set by what they show for the grouping columns
+-- How two rows stand to each other under keys, then by the index of their grouping set, and in one
+-- set by what they show for the grouping columns
 abbrev pub before_under : List CodedForm → List Field → Query → ResultRow → ResultRow → Ordering
 before_under cs fields t x y = ordering_then (under_coded cs x y) (ordering_then (nat_cmp x.0 y.0) (slice_cmp value_order (grouping_values fields t x) (grouping_values fields t y)))
 
--- the keys are enough: under them rows stand to each other as under all of ORDER BY
+-- The keys are enough: under them rows stand to each other as under all of ORDER BY.
 abbrev pub AreEnough : List CodedForm → List Field → Query → Type 0
 AreEnough cs fields t = (x y : ResultRow) → HasKeyOf fields t x → HasKeyOf fields t y → before_under cs fields t x y ≡ row_order fields t x y
 
 -- ---- entries
 
--- an entry apart from where it lies in memory: the code of a row in parts, and the row
+-- An entry apart from where it lies in memory: the code of a row in parts, and the row.
 abbrev pub EntryForm : Type 0
 EntryForm = SortParts × ResultRow
 
--- the entry of a row, where these keys stand in its code
+-- The entry of a row, where these keys stand in its code.
 abbrev pub entry_at : List CodedForm → ResultRow → EntryForm
 entry_at cs row = (parts_of (row_code cs row), row)
 
--- how two entries stand to each other: as their codes do
+-- How two entries stand to each other: as their codes do.
 abbrev pub by_code : EntryForm → EntryForm → Ordering
 by_code x y = parts_order x.0 y.0
 
--- the form of an entry of the code
+-- The form of an entry of the code.
 abbrev pub entry_form : SortEntry → EntryForm
 entry_form entry = (key_parts entry.key, row_of entry.found.now)
 
--- entries are those of rows, in whatever order
+-- Entries are those of rows, in whatever order.
 pub record AreEntriesOf (cs : List CodedForm) (rows : List ResultRow) (made : List SortEntry) : Type 0 where
   pub codable : AllByRecursion (IsCodableRow cs) rows
   pub entries : IsPermutation (map (entry_at cs) rows) (map entry_form made)
 
--- each list that was made has those of its part of the rows
+-- Each list that was made has those of its part of the rows.
 abbrev pub AreEntriesOfParts : List CodedForm → ℕ → List ResultRow → List (Result (Vec SortEntry) AllocError) → Type 0
 AreEntriesOfParts cs size rows parts = AreOfParts (AreEntriesOf cs) size rows parts

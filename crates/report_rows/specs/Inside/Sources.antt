@@ -12,7 +12,7 @@ use Rattle.report_rows.specs.declared.source.ValueSource.TheVariants.{KeyAt, Cel
 use Rattle.semantics.specs.Rows.{expression_value}
 use Rattle.report_rows.specs.Sources.{shown_at}
 
--- each row of the grouping set has there what it shows for the expression
+-- Each row of the grouping set has there what it shows for the expression.
 abbrev pub IsSourceOf : PlannedQuery → List ℕ → syntax.Expression → ValueSource → Type 0
 IsSourceOf plan set e source = (key : Key) (cells : List CellValue) → shown_at key cells source ≡ expression_value plan.fields plan.query set key cells e
 
@@ -24,16 +24,17 @@ IsWithin columns functions (Always value) = ⊤
 
 -- ---- places for a list of expressions
 
--- the forms of expressions of the code
+-- The forms of expressions of the code.
 abbrev pub expression_forms : List (Bor Expression) → List syntax.Expression
 expression_forms expressions = map (λ e. expression_form e.now) expressions
 
--- each row of the grouping set has there what it shows for these expressions
+-- Each row of the grouping set has there what it shows for these expressions.
 abbrev pub AreSourcesFor : PlannedQuery → List syntax.Expression → List ℕ → List ValueSource → Type 0
 AreSourcesFor plan es set sources = (key : Key) (cells : List CellValue) → map (shown_at key cells) sources ≡ map (expression_value plan.fields plan.query set key cells) es
 
 -- ---- places for one expression
 
--- the rows of each of these grouping sets have there, at one place for each set, what they show for the expression
+-- The rows of each of these grouping sets have there, at one place for each set, what they show for
+-- the expression
 abbrev pub AreSourcesBySet : PlannedQuery → syntax.Expression → List (List ℕ) → List ValueSource → Type 0
 AreSourcesBySet plan e sets sources = (key : Key) (cells : List CellValue) → map (shown_at key cells) sources ≡ map (λ set. expression_value plan.fields plan.query set key cells e) sets

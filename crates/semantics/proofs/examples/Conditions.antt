@@ -106,11 +106,12 @@ where_not_is_true-report = refl
 
 -- SELECT COUNT(*) AS n FROM lines WHERE q BETWEEN 2 AND 1 OR a
 abbrev where_between_or : Query
-where_between_or = record (select (item_as (over count_rows) "n" ∷ []) [])
-    { where_condition = Some
-    (or_of (predicate_forms
-    ((between (value "q") false (literal (constant.Integer (pos 2)))
-    (literal (constant.Integer (pos 1)))) ∷ (column (codes "a")) ∷ []))) }
+where_between_or = record (select (item_as (over count_rows) "n" ∷ []) []) {
+  where_condition = Some
+      (or_of (predicate_forms
+      ((between (value "q") false (literal (constant.Integer (pos 2)))
+      (literal (constant.Integer (pos 1)))) ∷ (column (codes "a")) ∷ [])));
+}
 
 where_between_or-faults : query_faults truth_columns where_between_or ≡ []
 unfolding serde_json_on_literals is_utf8 chars digits escaped fields_text is_blank reserved_word query_faults
@@ -122,11 +123,12 @@ where_between_or-report = refl
 
 -- SELECT COUNT(*) AS n FROM lines WHERE q NOT IN (1) AND a IS NOT FALSE
 abbrev where_not_in_and : Query
-where_not_in_and = record (select (item_as (over count_rows) "n" ∷ []) [])
-    { where_condition = Some
-    (and_of (predicate_forms
-    ((member (value "q") true (constant.Integer (pos 1) ∷ []))
-    ∷ (truth_test (column (codes "a")) true truth.False) ∷ []))) }
+where_not_in_and = record (select (item_as (over count_rows) "n" ∷ []) []) {
+  where_condition = Some
+      (and_of (predicate_forms
+      ((member (value "q") true (constant.Integer (pos 1) ∷ []))
+      ∷ (truth_test (column (codes "a")) true truth.False) ∷ [])));
+}
 
 where_not_in_and-faults : query_faults truth_columns where_not_in_and ≡ []
 unfolding serde_json_on_literals is_utf8 chars digits escaped fields_text is_blank reserved_word query_faults
@@ -138,11 +140,12 @@ where_not_in_and-report = refl
 
 -- SELECT COUNT(*) AS n FROM lines WHERE a = FALSE OR a > FALSE
 abbrev where_above_false : Query
-where_above_false = record (select (item_as (over count_rows) "n" ∷ []) [])
-    { where_condition = Some
-    (or_of (predicate_forms
-    ((compare (value "a") op.Eq (literal (constant.Truth false)))
-    ∷ (compare (value "a") op.Gt (literal (constant.Truth false))) ∷ []))) }
+where_above_false = record (select (item_as (over count_rows) "n" ∷ []) []) {
+  where_condition = Some
+      (or_of (predicate_forms
+      ((compare (value "a") op.Eq (literal (constant.Truth false)))
+      ∷ (compare (value "a") op.Gt (literal (constant.Truth false))) ∷ [])));
+}
 
 where_above_false-faults : query_faults truth_columns where_above_false ≡ []
 unfolding serde_json_on_literals is_utf8 chars digits escaped fields_text is_blank reserved_word query_faults
@@ -154,10 +157,11 @@ where_above_false-report = refl
 
 -- SELECT COUNT(*) AS n FROM lines WHERE r IN ('n', 'm') IS UNKNOWN
 abbrev in_is_unknown : Query
-in_is_unknown = record (select (item_as (over count_rows) "n" ∷ []) [])
-    { where_condition = Some
-    (truth_test (member (value "r") false
-    (constant.Text (codes "n") ∷ constant.Text (codes "m") ∷ [])) false truth.Unknown) }
+in_is_unknown = record (select (item_as (over count_rows) "n" ∷ []) []) {
+  where_condition = Some
+      (truth_test (member (value "r") false
+      (constant.Text (codes "n") ∷ constant.Text (codes "m") ∷ [])) false truth.Unknown);
+}
 
 in_is_unknown-faults : query_faults columns in_is_unknown ≡ []
 unfolding serde_json_on_literals is_utf8 chars digits escaped fields_text is_blank reserved_word query_faults

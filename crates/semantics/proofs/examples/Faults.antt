@@ -24,9 +24,10 @@ not_grouped-faults = refl
 
 -- SELECT COUNT(*) FROM lines WHERE COUNT(*) > 1
 abbrev function_in_where : Query
-function_in_where = record (select (item (over count_rows) ∷ []) [])
-    { where_condition = Some
-    (compare (expression (over count_rows)) op.Gt (literal (constant.Integer (pos 1)))) }
+function_in_where = record (select (item (over count_rows) ∷ []) []) {
+  where_condition = Some
+      (compare (expression (over count_rows)) op.Gt (literal (constant.Integer (pos 1))));
+}
 
 function_in_where-faults : query_faults columns function_in_where ≡ FunctionNotAllowed ∷ []
 unfolding serde_json_on_literals is_utf8 chars digits escaped fields_text is_blank reserved_word query_faults
@@ -98,10 +99,11 @@ order_by_average-faults = refl
 
 -- SELECT COUNT(*) FROM lines HAVING AVG(q) > 1
 abbrev having_average : Query
-having_average = record (select (item (over count_rows) ∷ []) [])
-    { having_condition = Some
-    (compare (expression (over (aggregate.Avg (codes "q")))) op.Gt
-    (literal (constant.Integer (pos 1)))) }
+having_average = record (select (item (over count_rows) ∷ []) []) {
+  having_condition = Some
+      (compare (expression (over (aggregate.Avg (codes "q")))) op.Gt
+      (literal (constant.Integer (pos 1))));
+}
 
 having_average-faults : query_faults columns having_average ≡ FunctionNotAllowed ∷ TypesDisagree
     ∷ []
@@ -110,10 +112,11 @@ having_average-faults = refl
 
 -- SELECT COUNT(*) FROM lines HAVING MIN(d) > 1
 abbrev having_min_of_text : Query
-having_min_of_text = record (select (item (over count_rows) ∷ []) [])
-    { having_condition = Some
-    (compare (expression (over (aggregate.Min (codes "d")))) op.Gt
-    (literal (constant.Integer (pos 1)))) }
+having_min_of_text = record (select (item (over count_rows) ∷ []) []) {
+  having_condition = Some
+      (compare (expression (over (aggregate.Min (codes "d")))) op.Gt
+      (literal (constant.Integer (pos 1))));
+}
 
 having_min_of_text-faults : query_faults columns having_min_of_text ≡ TypesDisagree ∷ []
 unfolding serde_json_on_literals is_utf8 chars digits escaped fields_text is_blank reserved_word query_faults
@@ -139,9 +142,10 @@ text_in_filter-faults = refl
 
 -- SELECT d FROM lines WHERE x = 1 GROUP BY y HAVING q = TRUE
 abbrev many_faults : Query
-many_faults = record (select (item (name (codes "d")) ∷ []) (set (codes "y" ∷ []) ∷ []))
-    { where_condition = Some (compare (value "x") op.Eq (literal (constant.Integer (pos 1))));
-    having_condition = Some (compare (value "q") op.Eq (literal (constant.Truth true))) }
+many_faults = record (select (item (name (codes "d")) ∷ []) (set (codes "y" ∷ []) ∷ [])) {
+  where_condition = Some (compare (value "x") op.Eq (literal (constant.Integer (pos 1))));
+  having_condition = Some (compare (value "q") op.Eq (literal (constant.Truth true)));
+}
 
 many_faults-faults : query_faults columns many_faults ≡ UnknownColumn (codes "x") ∷ TypesDisagree
     ∷ UnknownColumn (codes "y") ∷ NotGrouped (codes "d") ∷ NotGrouped (codes "q") ∷ TypesDisagree

@@ -203,11 +203,11 @@ descending_nulls_last-report = refl
 abbrev having_either : Query
 having_either = record
     (select (item (name (codes "d")) ∷ item_as (over count_rows) "n" ∷ [])
-    (rollup ((codes "d" ∷ []) ∷ []) ∷ []))
-    { having_condition = Some
-    (or_of (predicate_forms
-    ((compare (expression (grouping (codes "d" ∷ []))) op.Eq (literal (constant.Integer (pos 1))))
-    ∷ (compare (expression (over count_rows)) op.Gt (literal (constant.Integer (pos 1)))) ∷ [])))
+    (rollup ((codes "d" ∷ []) ∷ []) ∷ [])) {
+      having_condition = Some
+          (or_of (predicate_forms
+          ((compare (expression (grouping (codes "d" ∷ []))) op.Eq (literal (constant.Integer (pos 1))))
+          ∷ (compare (expression (over count_rows)) op.Gt (literal (constant.Integer (pos 1)))) ∷ [])));
     }
 
 having_either-faults : query_faults columns having_either ≡ []
@@ -267,9 +267,10 @@ all_functions = record
     (over (aggregate.Count (codes "q"))) "c" ∷ item_as
     (over (aggregate.CountDistinct (codes "q"))) "u" ∷ item_as (over (aggregate.Min (codes "q")))
     "lo" ∷ item_as (over (aggregate.Max (codes "q"))) "hi" ∷ item_as
-    (over (aggregate.Avg (codes "q"))) "a" ∷ []) (rollup ((codes "k" ∷ []) ∷ []) ∷ []))
-    { keys = sorted_by_key (grouping (codes "k" ∷ [])) true true ∷ sorted_by_key
-    (name (codes "k")) false true ∷ [] }
+    (over (aggregate.Avg (codes "q"))) "a" ∷ []) (rollup ((codes "k" ∷ []) ∷ []) ∷ [])) {
+      keys = sorted_by_key (grouping (codes "k" ∷ [])) true true ∷ sorted_by_key
+          (name (codes "k")) false true ∷ [];
+    }
 
 all_functions-faults : query_faults
     (column_of_type "k" kind.Text ∷ column_of_type "q" kind.Int ∷ []) all_functions ≡ []
@@ -284,10 +285,11 @@ all_functions-report = refl
 
 -- SELECT COUNT(*) AS n FROM lines HAVING SUM(q) > 100
 abbrev having_false : Query
-having_false = record (select (item_as (over count_rows) "n" ∷ []) [])
-    { having_condition = Some
-    (compare (expression (over (aggregate.Sum (codes "q")))) op.Gt
-    (literal (constant.Integer (pos 100)))) }
+having_false = record (select (item_as (over count_rows) "n" ∷ []) []) {
+  having_condition = Some
+      (compare (expression (over (aggregate.Sum (codes "q")))) op.Gt
+      (literal (constant.Integer (pos 100))));
+}
 
 having_false-faults : query_faults columns having_false ≡ []
 unfolding serde_json_on_literals is_utf8 chars digits escaped fields_text is_blank reserved_word query_faults
@@ -402,8 +404,11 @@ abbrev having_and_order : Query
 having_and_order = record
     (select (item (name (codes "d")) ∷ item (name (codes "r")) ∷ item_as (over count_rows) "n"
     ∷ []) (sets (element_forms (set (codes "d" ∷ codes "r" ∷ []) ∷ set (codes "d" ∷ []) ∷ []))
-    ∷ [])) { having_condition = Some (null_test (value "r") false); keys = sorted_by_key
-    (name (codes "n")) true true ∷ sorted_by_key (grouping (codes "r" ∷ [])) true true ∷ [] }
+    ∷ [])) {
+      having_condition = Some (null_test (value "r") false);
+      keys = sorted_by_key
+          (name (codes "n")) true true ∷ sorted_by_key (grouping (codes "r" ∷ [])) true true ∷ [];
+    }
 
 having_and_order-faults : query_faults columns having_and_order ≡ []
 unfolding serde_json_on_literals is_utf8 chars digits escaped fields_text is_blank reserved_word query_faults
@@ -440,10 +445,11 @@ order_by_filter = record
     (select (item_as (over (aggregate.Sum (codes "q"))) "s" ∷ item_as
     (over_those (aggregate.Sum (codes "q"))
     (not_of (compare (value "q") op.Gt (literal (constant.Integer (pos 2)))))) "t" ∷ [])
-    (set (codes "d" ∷ []) ∷ []))
-    { keys = sorted_by_key
-    (over_those (aggregate.Sum (codes "q"))
-    (not_of (compare (value "q") op.Gt (literal (constant.Integer (pos 2)))))) false true ∷ [] }
+    (set (codes "d" ∷ []) ∷ [])) {
+      keys = sorted_by_key
+          (over_those (aggregate.Sum (codes "q"))
+          (not_of (compare (value "q") op.Gt (literal (constant.Integer (pos 2)))))) false true ∷ [];
+    }
 
 order_by_filter-faults : query_faults columns order_by_filter ≡ []
 unfolding serde_json_on_literals is_utf8 chars digits escaped fields_text is_blank reserved_word query_faults

@@ -10,33 +10,36 @@ use Rattle.tables.specs.declared.roll.Roll.{Roll}
 use Rattle.tables.specs.declared.roll.SetTable.{SetTable}
 use Rattle.tables.specs.Inside.Properties.{AreGroupsOf, AreGroupsWith, HasProperty, Property}
 
--- each table has a property, under its set
+-- Each table has a property, under its set.
 abbrev pub HaveProperty : Property → List FilteredFunction → List SetTable → Type 0
 HaveProperty property functions tables = All (λ (table : SetTable). HasProperty property table.set.items functions table.table) tables
 
--- Tables are of the records that one table is of, which is under a finer set: whatever records those are, and whatever the filters keep. So they are of the types and of the number of records of that one.
+-- Tables are of the records that one table is of, which is under a finer set: whatever records
+-- those are, and whatever the filters keep. So they are of the types and of the number of records
+-- of that one.
 abbrev pub AreRollsOf : List ℕ → List FilteredFunction → Contents → List SetTable → Type 0
 AreRollsOf finer functions table tables = (property : Property) → HasProperty property finer functions table → HaveProperty property functions tables
 
--- so is one table, under a set
+-- So is one table, under a set.
 abbrev pub IsRolledOutOf : List FilteredFunction → SetTable → List ℕ → Contents → Type 0
 IsRolledOutOf functions finer set table = (property : Property) → HasProperty property finer.set.items functions finer.table → HasProperty property set functions table
 
 -- ---- rolls
 
--- the set whose table a roll is to make
+-- The set whose table a roll is to make.
 abbrev pub set_of_roll : Roll → List ℕ
 set_of_roll roll = roll.set.items
 
--- the roll is of the same set as before, which stands at the same index; where it has a table, that is the table of the set over the records whose table the finer one is
+-- The roll is of the same set as before, which stands at the same index; where it has a table, that
+-- is the table of the set over the records whose table the finer one is
 abbrev pub HasRolled : List FilteredFunction → SetTable → Roll → Roll → Type 0
 HasRolled functions finer old new = (new.set.items ≡ old.set.items) × (new.index ≡ old.index) × IfSome new.table (IsRolledOutOf functions finer old.set.items)
 
--- so is each roll of a list
+-- So is each roll of a list.
 abbrev pub AreRolled : List FilteredFunction → SetTable → List Roll → List Roll → Type 0
 AreRolled functions finer olds news = (i : ℕ) (d : Roll) → i < length olds → HasRolled functions finer (slice_index_or olds i d) (slice_index_or news i d)
 
--- each roll that has a table has a property, under its set
+-- Each roll that has a table has a property, under its set.
 abbrev pub HavePropertyWhereMade : Property → List FilteredFunction → List Roll → Type 0
 HavePropertyWhereMade property functions rolls = All (λ (roll : Roll). IfSome roll.table (HasProperty property roll.set.items functions)) rolls
 
@@ -52,42 +55,43 @@ listed_roll roll = (Some roll.index, roll.set.items)
 abbrev pub listed_table : SetTable → ListedSet
 listed_table table = (table.index, table.set.items)
 
--- the sets of rolls
+-- The sets of rolls.
 abbrev pub sets_of_rolls : List Roll → List ListedSet
 sets_of_rolls rolls = map listed_roll rolls
 
--- the sets of tables
+-- The sets of tables.
 abbrev pub sets_of_tables : List SetTable → List ListedSet
 sets_of_tables tables = map listed_table tables
 
--- where the set has an index, it stands there in the list
+-- Where the set has an index, it stands there in the list.
 abbrev pub StandsAtIndex : List (Vec ℕ Global) → ListedSet → Type 0
 StandsAtIndex sets set = (index : ℕ) (other : Vec ℕ Global) → set.0 ≡ Some index → (index < length sets) × ((slice_index_or sets index other).items ≡ set.1)
 
--- none of the sets has the index
+-- None of the sets has the index.
 abbrev pub NoneHasIndex : ℕ → List ListedSet → Type 0
 NoneHasIndex index sets = All (λ (set : ListedSet). set.0 ≢ Some index) sets
 
--- one of some sets has all columns of the set
+-- One of some sets has all columns of the set.
 abbrev pub HasFiner : List ℕ → List ListedSet → Type 0
 HasFiner set sets = All (λ (other : ListedSet). AreAmong set other.1 → ⊥) sets → ⊥
 
--- so it is with the set of each roll
+-- So it is with the set of each roll.
 abbrev pub HaveFiner : List Roll → List ListedSet → Type 0
 HaveFiner rolls sets = All (λ (roll : Roll). HasFiner roll.set.items sets) rolls
 
 -- ---- groups
 
--- of lists of groups, those at another index than that of the table's set stay
+-- Of lists of groups, those at another index than that of the table's set stay.
 abbrev pub KeepsOthers : SetTable → List (Vec Group Global) → List (Vec Group Global) → Type 0
 KeepsOthers table olds news = (index : ℕ) (other : Vec Group Global) → table.index ≢ Some index → slice_index_or news index other ≡ slice_index_or olds index other
 
--- where the table's set has an index, the groups that stand there are those of the table
+-- Where the table's set has an index, the groups that stand there are those of the table.
 abbrev pub HasGroupsOf : SetTable → List (Vec Group Global) → Type 0
 HasGroupsOf table groups = (index : ℕ) (other : Vec Group Global) (property : Property) (functions : List FilteredFunction) → table.index ≡ Some index
     → HasProperty property table.set.items functions table.table → AreGroupsWith property functions table.set.items (slice_index_or groups index other).items
 
--- for each set of a list there are its groups of the records that one table is of, which is under a finer set; they have the types that the table has
+-- For each set of a list there are its groups of the records that one table is of, which is under a
+-- finer set; they have the types that the table has
 abbrev pub AreGroupsOfRolls : List ℕ → List FilteredFunction → Contents → List (List ℕ) → List (Vec Group Global) → Type 0
 AreGroupsOfRolls finer functions table sets groups =
     (property : Property) → HasProperty property finer functions table → AreGroupsOf property functions sets groups

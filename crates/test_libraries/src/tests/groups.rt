@@ -1,4 +1,6 @@
-//! Records are grouped in two parts, and the parts are put together; groups are rolled up. Two set functions have a FILTER.
+//! Records are grouped in two parts, and the parts are put together; groups are rolled up. Two set
+//! functions have a FILTER.
+
 ghost use Rattle.std.specs.Prelude.{◌≡◌, ◌<◌, ◌^◌, ◌∷◌, [], IfOk, length, List, map};
 ghost use Rattle.values.specs.Datum.{data_of, datum_of};
 ghost use Rattle.group_tables.specs.Functions.{aggregate_of};
@@ -159,7 +161,8 @@ fn table_of_few(
     Ok(table)
 }
 
-/// The groups of three records by their first column, by way of those by their third and their first one.
+/// The groups of three records by their first column, by way of those by their third and their
+/// first one.
 fn rolled_groups(alloc: Global) -> Result<Vec<Group>, AllocError> {
     let records: [&[Field]; 3] = [
         &[Field::Text("x"), Field::Number(5), Field::Text("a")],

@@ -1,4 +1,5 @@
 //! The report and the refused list of one input, and the laws.
+
 ghost use Rattle.std.specs.Prelude.{IfOk, ◌<◌, ◌^◌, length};
 ghost use Rattle.tables.specs.Partials.{IsPartialOf};
 ghost use Rattle.tables.specs.Planned.{IsFinishOf};

@@ -24,8 +24,8 @@ fn units(alloc: Global, texts: &[&str]) -> Result<Vec<Vec<Text>>, AllocError> {
     Ok(all)
 }
 
-/// `SELECT COUNT(*) FROM lines GROUP BY GROUPING SETS (ROLLUP (d, r), CUBE (r), (d, d))`, with DISTINCT behind GROUP BY
-/// or without it.
+/// `SELECT COUNT(*) FROM lines GROUP BY GROUPING SETS (ROLLUP (d, r), CUBE (r), (d,
+/// d))`, with DISTINCT behind GROUP BY or without it.
 fn counting(alloc: Global, distinct_sets: bool) -> Result<Tree, AllocError> {
     let mut sets = Vec::new(alloc);
     sets.push(GroupingElement::Rollup(units(alloc, &["d", "r"])?))?;
@@ -100,7 +100,8 @@ fn resolves_distinct_sets(rt: HostRuntime) -> Result<(), Fail> {
     Ok(())
 }
 
-/// For the loop that refuses each allocation in turn: the different grouping sets, or want of memory.
+/// For the loop that refuses each allocation in turn: the different grouping sets, or want of
+/// memory.
 #[test]
 fn refusal_of_distinct_sets(rt: HostRuntime) {
     let alloc = rt.alloc();

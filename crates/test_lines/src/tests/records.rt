@@ -71,8 +71,8 @@ fn check_refusable(
     }
 }
 
-/// Checks what comes of a line by every way to read it; the tokens alone answer exactly where there is a
-/// record, and the bytes alone where moreover the first name does not begin with an escape.
+/// Checks what comes of a line by every way to read it; the tokens alone answer exactly where there
+/// is a record, and the bytes alone where moreover the first name does not begin with an escape.
 fn check_line(
     rt: &impl Abort,
     alloc: Global,
@@ -151,8 +151,8 @@ fn cuts_of_bytes(rt: HostRuntime) -> Result<(), Fail> {
     Ok(())
 }
 
-/// Among the records are a plain line, members in any order, repeated names, of which the last counts,
-/// escapes in names and texts, and nested values and floats that no column takes.
+/// Among the records are a plain line, members in any order, repeated names, of which the last
+/// counts, escapes in names and texts, and nested values and floats that no column takes.
 #[test]
 fn lines_as_records(rt: HostRuntime) -> Result<(), Fail> {
     let columns = "d:text,q:int,v:bool";
@@ -251,7 +251,8 @@ fn refusal_of_cut(rt: HostRuntime) {
     }
 }
 
-/// The same of a good line and of refused ones, by a reader that reads on and by calls of their own.
+/// The same of a good line and of refused ones, by a reader that reads on and by calls of their
+/// own.
 #[test]
 fn refusal_of_records(rt: HostRuntime) {
     let Ok(schema) = Schema::parse(rt.alloc(), "d:text,q:int") else {

@@ -1,5 +1,5 @@
-//! An input in rounds of whole lines: lines that are too long or end where a round ends, readers that are slow, and
-//! readers that fail.
+//! An input in rounds of whole lines: lines that are too long or end where a round ends, readers
+//! that are slow, and readers that fail.
 
 use lines::{ReadFault, Round, Rounds, clip_law, front_law};
 use std::alloc::{AllocError, Global};
@@ -34,7 +34,8 @@ impl Read for FaultyReader<'_> {
     }
 }
 
-/// An input with a long run of one byte in it, which is given in rounds with a run that may be shorter.
+/// An input with a long run of one byte in it, which is given in rounds with a run that may be
+/// shorter.
 #[derive(Clone, Copy, Debug)]
 struct RoundsCase {
     front: &'static [u8],
@@ -77,8 +78,8 @@ const fn feeds(count: usize) -> RoundsCase {
     }
 }
 
-/// Checks that the rounds of an input are these bytes, that none is longer than it may be, that each but the last ends
-/// with a line, and that nothing follows them.
+/// Checks that the rounds of an input are these bytes, that none is longer than it may be, that
+/// each but the last ends with a line, and that nothing follows them.
 fn check_rounds<R: Read + Drop>(
     rt: &impl Abort,
     alloc: Global,
@@ -134,8 +135,9 @@ fn check_row(rt: &impl Abort, alloc: Global, row: RoundsCase) -> Result<(), Fail
     Ok(())
 }
 
-/// Nothing, short lines, many feeds in a row, lines at the greatest length and longer, the last of an input among them.
-/// Behind the feeds a line ends one byte before a round does, with it, and one byte behind it.
+/// Nothing, short lines, many feeds in a row, lines at the greatest length and longer, the last of
+/// an input among them. Behind the feeds a line ends one byte before a round does, with it, and one
+/// byte behind it.
 #[test]
 fn rounds_of_inputs(rt: HostRuntime) -> Result<(), Fail> {
     let rows = [
@@ -180,7 +182,8 @@ fn rounds_that_are_full(rt: HostRuntime) -> Result<(), Fail> {
     Ok(())
 }
 
-/// A round that is waited for ends early, with about 8,388,608 bytes; else it comes near to the most that it may have.
+/// A round that is waited for ends early, with about 8,388,608 bytes; else it comes near to the
+/// most that it may have.
 #[test]
 fn rounds_that_are_waited_for(rt: HostRuntime) -> Result<(), Fail> {
     let input = vec![in rt.alloc(); b'\n'; 30_000_000]?;
@@ -221,7 +224,8 @@ fn rounds_that_are_handed_out(rt: HostRuntime) -> Result<(), Fail> {
     Ok(())
 }
 
-/// Nothing is read before the first round is asked for, so that a reader that fails at once has not failed then.
+/// Nothing is read before the first round is asked for, so that a reader that fails at once has not
+/// failed then.
 #[test]
 fn rounds_begin_unread(rt: HostRuntime) -> Result<(), Fail> {
     let mut source = FaultyReader {
@@ -240,7 +244,8 @@ fn rounds_begin_unread(rt: HostRuntime) -> Result<(), Fail> {
     Ok(())
 }
 
-/// Where a read fails each call says so from then on, though the next read would not fail. The rounds before it are given.
+/// Where a read fails each call says so from then on, though the next read would not fail. The
+/// rounds before it are given.
 #[test]
 fn rounds_of_readers_that_fail(rt: HostRuntime) -> Result<(), Fail> {
     for (count, given) in [(0, 0), (6, 0), (3_000_000, 2)] {
@@ -268,7 +273,8 @@ fn laws_of_rounds(_rt: HostRuntime) {
     front_law();
 }
 
-/// For the loop that refuses each allocation in turn: want of memory, or the rounds, which then take none.
+/// For the loop that refuses each allocation in turn: want of memory, or the rounds, which then
+/// take none.
 #[test]
 fn refusal_of_rounds(rt: HostRuntime) {
     let input = b"ab\ncd".as_slice();

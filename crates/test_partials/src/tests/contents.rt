@@ -1,11 +1,13 @@
 //! What a partial result contains, as plain values.
+
 use super::partials::{BY_D, plan_or_refused, two_merged};
 use lines::LineFault;
 use std::process::Abort;
 use tables::{Partial, PartialContents, Serial};
 use values::{GroupEntry, State, Value};
 
-/// Whether this is a group by `d`: of so many lines, with this sum of so many numbers. It takes no memory.
+/// Whether this is a group by `d`: of so many lines, with this sum of so many numbers. It takes no
+/// memory.
 fn is_group(group: &GroupEntry, key: &str, members: u64, sum: i128, numbers: u64) -> bool {
     let [Value::Text(text)] = group.key.as_slice() else {
         return false;
@@ -16,7 +18,8 @@ fn is_group(group: &GroupEntry, key: &str, members: u64, sum: i128, numbers: u64
     text.as_str() == key && group.members == members && *total == sum && *count == numbers
 }
 
-/// Asserts that these are the contents of the four lines, the groups by ascending keys. It takes no memory.
+/// Asserts that these are the contents of the four lines, the groups by ascending keys. It takes no
+/// memory.
 fn assert_four_contained(rt: &impl Abort, contents: &PartialContents) {
     let [first, second] = contents.groups.as_slice() else {
         panic!(rt; "not two groups");
@@ -26,8 +29,8 @@ fn assert_four_contained(rt: &impl Abort, contents: &PartialContents) {
     assert!(rt; contents.lines == 4 && contents.refused.as_slice() == refused.as_slice());
 }
 
-/// For the loop that refuses each allocation in turn: the contents of two pieces merged, or want of memory. The refused line
-/// is the second one of the later piece.
+/// For the loop that refuses each allocation in turn: the contents of two pieces merged, or want of
+/// memory. The refused line is the second one of the later piece.
 #[test]
 fn refusal_of_into_contents(rt: HostRuntime) {
     if let Some(plan) = plan_or_refused(&rt, rt.alloc(), BY_D) {

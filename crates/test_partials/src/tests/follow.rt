@@ -1,4 +1,5 @@
 //! The result over a front of whole lines, followed by that over the rest, is the result over all.
+
 ghost use Rattle.std.specs.Prelude.{◌≡◌, ◌^◌, ◌<◌, length, true, IfOk};
 ghost use Rattle.semantics.specs.Lines.{lines};
 ghost use Rattle.lines.specs.Pieces.{AreWholeLines};
@@ -184,7 +185,8 @@ fn folded_behind(
     whole.fold_behind(plan, rest)
 }
 
-/// The result over a front of whole lines as one piece, with the rest folded onto it as the next one.
+/// The result over a front of whole lines as one piece, with the rest folded onto it as the next
+/// one.
 fn folded_onto_one_piece(
     rt: &impl Abort,
     alloc: Global,
@@ -219,8 +221,8 @@ fn assert_found(
     assert_groups(rt, alloc, &groups, wanted);
 }
 
-/// Asserts that the result over both parts of an input, one following the other, folded behind it or folded onto it, is
-/// what the result over all of it is.
+/// Asserts that the result over both parts of an input, one following the other, folded behind it
+/// or folded onto it, is what the result over all of it is.
 fn assert_followed<H: Abort + Threads + Sync>(rt: &H, alloc: Global, plan: &Plan, parted: &Parted) {
     let mut input = parted.front.to_vec(alloc).expect(rt, "memory");
     input.extend_from_slice(parted.rest).expect(rt, "memory");
@@ -265,7 +267,8 @@ fn assert_both_or_refused(rt: &impl Abort, plan: &Plan, both: Result<Partial, Al
     }
 }
 
-/// For the loop that refuses each allocation in turn: the result over both parts, or want of memory.
+/// For the loop that refuses each allocation in turn: the result over both parts, or want of
+/// memory.
 #[test]
 fn refusal_of_follow(rt: HostRuntime) {
     assert!(rt; are_whole_lines(IN_BOTH.front));

@@ -1,4 +1,6 @@
-//! Results with many groups that several hands begin, put together and finish are the result over all.
+//! Results with many groups that several hands begin, put together and finish are the result over
+//! all.
+
 ghost use Rattle.std.specs.Prelude.{◌<◌, IfOk};
 ghost use Rattle.tables.specs.Partials.{IsPartialOf};
 
@@ -52,7 +54,8 @@ fn begun_by_hands<H: Abort + Threads + Sync>(
     result_with_piece(plan, begun, index, piece)
 }
 
-/// The result over two pieces, put together by so many hands; the second one begins as so many others begin it.
+/// The result over two pieces, put together by so many hands; the second one begins as so many
+/// others begin it.
 fn merged_by_hands<H: Abort + Threads + Sync>(
     rt: &H,
     alloc: Global,
@@ -82,7 +85,8 @@ fn is_same(left: &(usize, Group), right: &(usize, Group)) -> bool {
         && left.1.cells.as_slice() == right.1.cells.as_slice()
 }
 
-/// Asserts that a result finds these groups, where so many hands finish it and give its memory back.
+/// Asserts that a result finds these groups, where so many hands finish it and give its memory
+/// back.
 fn assert_finds<H: Abort + Threads + Sync>(
     rt: &H,
     alloc: Global,
@@ -111,8 +115,8 @@ fn assert_finds<H: Abort + Threads + Sync>(
     groups.give_back(&hands, alloc);
 }
 
-/// Asserts that these groups are found by the results over two inputs that so many hands put together, also where one of
-/// them begins as so many others begin it.
+/// Asserts that these groups are found by the results over two inputs that so many hands put
+/// together, also where one of them begins as so many others begin it.
 fn assert_joined<H: Abort + Threads + Sync>(
     rt: &H,
     alloc: Global,

@@ -1,4 +1,5 @@
 //! Partial results over pieces of an input, merged in several orders.
+
 ghost use Rattle.std.specs.Prelude.{◌+◌, ◌≤◌, ◌<◌, ◌^◌, length, IfOk};
 ghost use Rattle.semantics.specs.Lines.{lines};
 ghost use Rattle.std.proofs.Props.{props};
@@ -50,7 +51,8 @@ fn query_or_refused(rt: &impl Abort, alloc: Global, text: &str) -> Option<Query>
     }
 }
 
-// A query or a plan is given up by a call: a drop in place is proved in place, for each form of a query.
+// A query or a plan is given up by a call: a drop in place is proved in place, for each form of a
+// query.
 
 /// The plan of a query's text, and `None` for want of memory.
 pub fn plan_or_refused(rt: &impl Abort, alloc: Global, text: &str) -> Option<Plan> {
@@ -179,8 +181,8 @@ impl Parting {
     }
 }
 
-/// Pieces are parted in two, what comes of the one part is merged with what comes of the other, and each part is
-/// treated so; a single piece is merged into the result over none.
+/// Pieces are parted in two, what comes of the one part is merged with what comes of the other, and
+/// each part is treated so; a single piece is merged into the result over none.
 fn merge_pieces(
     rt: &impl Abort,
     alloc: Global,
@@ -237,8 +239,8 @@ pub fn assert_groups(rt: &impl Abort, alloc: Global, groups: &Groups, wanted: &F
     }
 }
 
-/// Cuts an input into small pieces, greater ones and a single one, merges the results over its pieces in several
-/// orders, and compares the numbers of lines and what comes of it.
+/// Cuts an input into small pieces, greater ones and a single one, merges the results over its
+/// pieces in several orders, and compares the numbers of lines and what comes of it.
 fn assert_found(rt: &impl Abort, alloc: Global, plan: &Plan, input: &[u8], wanted: &Findings) {
     let partings = [
         Parting::BehindTheFirst,
@@ -274,7 +276,8 @@ fn number_cell(number: Option<i128>) -> Cell {
     }
 }
 
-/// A group of the first set: the texts of its key, its number of lines, and its whole numbers; `None` for NULL.
+/// A group of the first set: the texts of its key, its number of lines, and its whole numbers;
+/// `None` for NULL.
 type GroupByHand<'a> = (&'a [Option<&'a str>], u64, &'a [Option<i128>]);
 
 /// What a query finds in an input, written by hand.
@@ -583,7 +586,8 @@ fn assert_four_counted(rt: &impl Abort, partial: &Partial) {
     assert!(rt; partial.lines() == 4 && partial.refused() == 1);
 }
 
-/// Whether this is a group by `d`: two lines of `x` with the sum 7, or one of `y`. It takes no memory.
+/// Whether this is a group by `d`: two lines of `x` with the sum 7, or one of `y`. It takes no
+/// memory.
 fn is_one_of_two((set, group): &(usize, Group)) -> bool {
     let (lines, sum) = match group.key.first() {
         Some(Value::Text(text)) if text.as_str() == "x" => (2, Value::Int(7)),

@@ -1,4 +1,6 @@
-//! What a query finds in an input, by the definitions' plain program: slow, over lists, without tables.
+//! What a query finds in an input, by the definitions' plain program: slow, over lists, without
+//! tables.
+
 ghost use Rattle.std.specs.Prelude.{◌<◌, length};
 ghost use Rattle.semantics.specs.SetFunctions.{functions_of};
 

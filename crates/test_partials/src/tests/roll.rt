@@ -1,4 +1,5 @@
 //! Partial results rolled to sets of grouping columns, listed or not.
+
 ghost use Rattle.std.specs.Prelude.{◌≡◌, true, IfOk};
 ghost use Rattle.group_tables.specs.Rolled.{AreAmong};
 ghost use Rattle.tables.specs.Partials.{IsPartialOf};
@@ -109,8 +110,8 @@ fn rolled_like_reference(rt: HostRuntime) {
     }
 }
 
-/// For the loop that refuses each allocation in turn: the one group of all lines, or want of memory. What was rolled
-/// is as it was.
+/// For the loop that refuses each allocation in turn: the one group of all lines, or want of
+/// memory. What was rolled is as it was.
 #[test]
 fn refusal_of_roll(rt: HostRuntime) {
     if let Some(plan) = plan_or_refused(&rt, rt.alloc(), BY_D) {

@@ -136,8 +136,9 @@ fn read_groups(
     Ok(groups)
 }
 
-/// Lines that are not two groups of a shop with a sum, of 3 members at most, each with the number of the line of its first
-/// fault, and what is told of that. Numbers of 64 bits are from -9223372036854775808 to 9223372036854775807.
+/// Lines that are not two groups of a shop with a sum, of 3 members at most, each with the number
+/// of the line of its first fault, and what is told of that. Numbers of 64 bits are from
+/// -9223372036854775808 to 9223372036854775807.
 const SHOP_FAULTS: &[(&[&[u8]], u64, &str)] = &[
     (&[b"'Harbour'", b"2"], 1, "not a value"),
     (&[b"\"Harbour\"", b"2.0"], 2, "not a value"),
@@ -277,8 +278,8 @@ fn check_shop_faults(rt: &impl Abort, alloc: Global) -> Result<(), PartRefusal> 
     Ok(())
 }
 
-/// Checks the faults of a group of no column, and that there are no two of them: the key of the second one, which no line
-/// stands for, is not above that of the first one.
+/// Checks the faults of a group of no column, and that there are no two of them: the key of the
+/// second one, which no line stands for, is not above that of the first one.
 fn check_whole_faults(rt: &impl Abort, alloc: Global) -> Result<(), PartRefusal> {
     let shape = whole_shape(alloc)?;
     for (lines, line, told) in WHOLE_FAULTS {

@@ -171,7 +171,8 @@ fn fronts_of_a_part(rt: HostRuntime) {
     drop(plan);
 }
 
-/// For the loop that refuses each allocation in turn: the part of the four lines, read and written again, or want of memory.
+/// For the loop that refuses each allocation in turn: the part of the four lines, read and written
+/// again, or want of memory.
 #[test]
 fn refusal_of_parts(rt: HostRuntime) {
     if let Some(plan) = plan_or_refused(rt.alloc()) {

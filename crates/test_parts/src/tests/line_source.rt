@@ -1,4 +1,5 @@
 //! Lines as a source of values.
+
 ghost use Rattle.std.specs.Prelude.{◌≡◌, ◌≤◌, drop, length, map};
 ghost use Rattle.part_lines.specs.Faults.{fault_at_line};
 ghost use Rattle.part_lines.specs.Reading.{reading_of};

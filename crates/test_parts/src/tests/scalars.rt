@@ -55,8 +55,8 @@ const SCALARS: &[(Scalar, &[u8])] = &[
     (Scalar::Text("\u{1f600}"), b"\"\xf0\x9f\x98\x80\""),
 ];
 
-/// Lines that are no values. Those that stand for a value in JSON are not written as it is: with a sign, a digit, a space or an
-/// escape more.
+/// Lines that are no values. Those that stand for a value in JSON are not written as it is: with a
+/// sign, a digit, a space or an escape more.
 const NO_SCALARS: &[&[u8]] = &[
     b"",
     b" ",
@@ -122,7 +122,8 @@ fn check_reading(
     Ok(())
 }
 
-/// Checks both tables, the lines of the values one behind the other. It fails for want of memory alone.
+/// Checks both tables, the lines of the values one behind the other. It fails for want of memory
+/// alone.
 pub fn check_scalars(rt: &impl Abort, alloc: Global) -> Result<(), AllocError> {
     let mut scratch = Scratch::new(alloc);
     let mut text = Vec::new(alloc);

@@ -1,4 +1,5 @@
 //! How many grouping sets queries have.
+
 use query::{QueryFault, parse};
 use std::alloc::{AllocError, Global};
 
@@ -61,8 +62,8 @@ fn cube_count(alloc: Global, names: usize) -> Result<u64, QueryFault> {
     count_of(alloc, groups.as_str())
 }
 
-/// How many sets there are in a CUBE of a name 63 times, one of 62 times and so on to one of a single name, which are
-/// 2^64 - 2, and in what stands behind them.
+/// How many sets there are in a CUBE of a name 63 times, one of 62 times and so on to one of a
+/// single name, which are 2^64 - 2, and in what stands behind them.
 fn count_with_all_cubes(alloc: Global, behind: &str) -> Result<u64, QueryFault> {
     let mut groups = String::new(alloc);
     groups.push_str("GROUPING SETS (")?;

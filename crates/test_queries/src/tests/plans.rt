@@ -1,4 +1,5 @@
 //! The plans of queries under columns.
+
 use super::queries::is_out_of_memory;
 use query::{
     ColumnFunction, Plan, QueryFault, check, filter_holds, filter_texts, header, parse, set_text,
@@ -9,7 +10,8 @@ use values::{Record, Schema, Truth, Value};
 
 const COLUMNS: &str = "d:text,r:text,q:int";
 
-/// The plan of a query under the columns, whose text is a schema: it is refused for want of memory alone.
+/// The plan of a query under the columns, whose text is a schema: it is refused for want of memory
+/// alone.
 fn plan_of(alloc: Global, text: &str) -> Result<Plan, QueryFault> {
     let query = parse(alloc, text)?;
     match Schema::parse(alloc, COLUMNS) {
@@ -99,8 +101,8 @@ const FILTERED: &str =
     "SELECT COUNT(*) FILTER (WHERE q > 1) AS a, SUM(q) FILTER (WHERE q > 2) AS b, \
     MAX(q) FILTER (WHERE (q > 1)) AS c, COUNT(*) FILTER (WHERE d = 'x') AS e, COUNT(*) AS n FROM lines";
 
-/// The texts of the different filters of a plan, which of them are True for a record, and the truth value of the FILTER
-/// of each set function for it.
+/// The texts of the different filters of a plan, which of them are True for a record, and the truth
+/// value of the FILTER of each set function for it.
 #[derive(Drop)]
 struct FiltersFound {
     texts: Vec<String>,
@@ -142,7 +144,8 @@ fn find_filters_of(alloc: Global, text: &str, number: i128) -> Result<FiltersFou
     Ok(found?)
 }
 
-/// Asserts what the three filters, and those of the five set functions, are for a record with the number 2.
+/// Asserts what the three filters, and those of the five set functions, are for a record with the
+/// number 2.
 fn assert_filters(rt: &impl Abort, found: &FiltersFound) {
     assert_eq!(rt; found.texts.len(), 3);
     assert_eq!(rt; found.texts[0].as_str(), "q > 1");
@@ -159,7 +162,8 @@ fn assert_filters(rt: &impl Abort, found: &FiltersFound) {
     assert_eq!(rt; found.truths.as_slice(), truths.as_slice());
 }
 
-/// Where memory is refused the answer is want of memory, else the filters and what they are for a record.
+/// Where memory is refused the answer is want of memory, else the filters and what they are for a
+/// record.
 #[test]
 fn refusal_of_filters(rt: HostRuntime) {
     match find_filters_of(rt.alloc(), FILTERED, 2) {

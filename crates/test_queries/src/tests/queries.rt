@@ -1,4 +1,5 @@
 //! Reading queries, and their canonical texts.
+
 use query::{Expression, Query, QueryFault, parse, print};
 use std::alloc::Global;
 use std::process::Abort;
@@ -9,7 +10,8 @@ fn canonical(alloc: Global, text: &str) -> Result<String, QueryFault> {
     Ok(print(alloc, &query)?)
 }
 
-/// Texts of queries, each with its canonical text: some of all clauses, and some that typing would refuse.
+/// Texts of queries, each with its canonical text: some of all clauses, and some that typing would
+/// refuse.
 const QUERIES: &[(&str, &str)] = &[
     (
         "select d , sum(q) as s from lines where not(a)or q in(1) group by d",

@@ -1,4 +1,5 @@
 //! Parts of shards, and their joins: what these write, and where a read or a write fails.
+
 use super::runs::{BY_D, BY_D_REPORT, By, is_refusal, make_plan, plan_if_any};
 use super::streams::{Pause, PauseReader, Sink};
 use jlreport_cli::Options;
@@ -12,7 +13,8 @@ use std::random::RandomSource;
 use std::sync::Wait;
 use std::thread::Threads;
 
-/// Two shards, and both as one input. A line of the second one is refused, and its last one has no line feed.
+/// Two shards, and both as one input. A line of the second one is refused, and its last one has no
+/// line feed.
 const FIRST: &[u8] = b"{\"d\":\"x\",\"r\":\"n\",\"q\":5}\n{\"d\":\"x\",\"r\":null,\"q\":2}\n";
 
 const SECOND: &[u8] = b"[1]\n{\"d\":\"y\",\"r\":\"n\"}";
@@ -143,7 +145,8 @@ fn join_without_an_end(rt: HostRuntime) {
     drop(plan);
 }
 
-/// A writer that has room for so many bytes, takes two at once, and then fails, or fails where it is flushed.
+/// A writer that has room for so many bytes, takes two at once, and then fails, or fails where it
+/// is flushed.
 fn failing_sink(alloc: Global, room: usize, flushes: bool) -> Sink {
     Sink {
         room,
@@ -176,7 +179,8 @@ fn assert_part_cut(
     assert!(rt; out.taken.as_slice() == &part[..part.len().min(room)]);
 }
 
-/// A beginning of a part is written where a write fails, whichever it is, and the whole where the flush fails.
+/// A beginning of a part is written where a write fails, whichever it is, and the whole where the
+/// flush fails.
 #[test]
 fn parts_that_are_not_written(rt: HostRuntime) {
     let plan = make_plan(&rt, rt.alloc(), BY_D);
@@ -203,7 +207,8 @@ fn parts_that_are_not_written(rt: HostRuntime) {
     drop(plan);
 }
 
-/// What a join with these writers answers, and that these were given all there was room for of the report and the list.
+/// What a join with these writers answers, and that these were given all there was room for of the
+/// report and the list.
 fn assert_join_cut(
     rt: &(impl Abort + Threads + Wait + RandomSource + Sync),
     alloc: Global,
@@ -220,8 +225,8 @@ fn assert_join_cut(
     assert!(rt; err.taken.as_slice() == &REFUSED[..REFUSED.len().min(list_room)]);
 }
 
-/// A beginning of the report is written, and nothing of the list, where a write of the report fails, whichever it is; and
-/// the report and a beginning of the list where one of the list fails.
+/// A beginning of the report is written, and nothing of the list, where a write of the report
+/// fails, whichever it is; and the report and a beginning of the list where one of the list fails.
 #[test]
 fn joins_that_are_not_written(rt: HostRuntime) {
     let plan = make_plan(&rt, rt.alloc(), BY_D);
@@ -292,8 +297,8 @@ fn written(room: &[u8]) -> &[u8] {
     &room[..len]
 }
 
-/// Where memory is refused the join of the part of both shards says so and nothing is written, else the report is, or the part
-/// again. It takes no memory but the join's.
+/// Where memory is refused the join of the part of both shards says so and nothing is written, else
+/// the report is, or the part again. It takes no memory but the join's.
 fn assert_joined(
     rt: &(impl Abort + Threads + Wait + RandomSource + Sync),
     alloc: Global,

@@ -1,5 +1,7 @@
-//! What no clause says: that the calls which take no memory, by the pages, ask for none. A test makes its values first, and
-//! these calls between two marks. Whoever watches the allocations tells whether one comes between the marks.
+//! What no clause says: that the calls which take no memory, by the pages, ask for none. A test
+//! makes its values first, and these calls between two marks. Whoever watches the allocations tells
+//! whether one comes between the marks.
+
 use super::runs::{LEAST_ROUND, make_plan};
 use jlreport_engine::put;
 use lines::{RecordReader, Round, Rounds, checked_lines_of, lines_of};

@@ -1,4 +1,5 @@
 //! `put` over writers that take few bytes a call, take none or fail.
+
 use super::streams::{Pause, Sink};
 use jlreport_engine::put;
 use std::alloc::Global;
@@ -11,7 +12,8 @@ const TEXT: &[u8] = b"d,n\nx,2\n\0\xff\n";
 /// The most bytes that a writer takes a call.
 const AT_ONCE: [usize; 4] = [1, 2, 3, 1_000_000];
 
-/// The same, and what the writer does in place of taking more. A write that takes none is one that failed.
+/// The same, and what the writer does in place of taking more. A write that takes none is one that
+/// failed.
 const PAUSES: [(usize, Pause); 6] = [
     (1, Pause::Nothing),
     (1, Pause::Error(ErrorKind::BrokenPipe)),
@@ -44,8 +46,8 @@ fn puts_a_text_whole(rt: HostRuntime) {
     }
 }
 
-/// Asserts for each number of bytes below the text's that a writer which takes as many and then pauses has got just the
-/// first ones, and that this number is answered.
+/// Asserts for each number of bytes below the text's that a writer which takes as many and then
+/// pauses has got just the first ones, and that this number is answered.
 fn assert_each_put_cut(rt: &impl Abort, alloc: Global, pause: (usize, Pause)) {
     for room in 0..TEXT.len() {
         let mut out = sink(alloc, room, pause);
@@ -65,7 +67,8 @@ fn puts_what_is_taken(rt: HostRuntime) {
     }
 }
 
-/// No call is made for a text of no bytes: any would have the writer pause, and take more from then on.
+/// No call is made for a text of no bytes: any would have the writer pause, and take more from then
+/// on.
 #[test]
 fn puts_no_bytes(rt: HostRuntime) {
     for pause in PAUSES {

@@ -1,4 +1,6 @@
-//! The result over an input, gathered without writing it: with ample memory, and with memory refused.
+//! The result over an input, gathered without writing it: with ample memory, and with memory
+//! refused.
+
 use super::runs::{BY_D, By, COUNT, THREE, make_plan, plan_if_any};
 use jlreport_cli::Options;
 use jlreport_scan::{GatherFault, gather, gather_alone};

@@ -1,5 +1,6 @@
-//! Runs that read their input in several rounds write what they write of one round: the numbers of lines run on, and
-//! the limit of refused lines is one limit for all rounds.
+//! Runs that read their input in several rounds write what they write of one round: the numbers of
+//! lines run on, and the limit of refused lines is one limit for all rounds.
+
 use super::runs::{
     BY_D, By, Case, LEAST_ROUND, assert_done, assert_run_or_refused, assert_too_many, make_plan,
 };
@@ -66,8 +67,8 @@ fn longest_lines(alloc: Global) -> Result<Vec<u8>, AllocError> {
     Ok(bytes)
 }
 
-/// Ten lines, of which four fill a round of the least size: in the first three are refused, in the second two, and
-/// in the third none.
+/// Ten lines, of which four fill a round of the least size: in the first three are refused, in the
+/// second two, and in the third none.
 fn three_rounds(alloc: Global) -> Result<Vec<u8>, AllocError> {
     let lines: [&[u8]; 9] = [
         b"[1]",
@@ -112,7 +113,8 @@ const SIZES: [(usize, usize, usize); 6] = [
     (67_108_864, 1_048_576, 1_000_000),
 ];
 
-/// Asserts that a case is done by each call in rounds of each size, from readers that give few bytes a call and many.
+/// Asserts that a case is done by each call in rounds of each size, from readers that give few
+/// bytes a call and many.
 fn assert_done_in_rounds(
     rt: &(impl Abort + Threads + Wait + RandomSource + Sync),
     alloc: Global,
@@ -183,7 +185,8 @@ fn limits_over_rounds(rt: HostRuntime) -> Result<(), Fail> {
     Ok(())
 }
 
-/// Where a round has too many refused lines the next one is not read, and so it is not told that a read would fail.
+/// Where a round has too many refused lines the next one is not read, and so it is not told that a
+/// read would fail.
 #[test]
 fn limits_before_a_read_that_fails(rt: HostRuntime) -> Result<(), Fail> {
     let alloc = rt.alloc();

@@ -1,5 +1,6 @@
-//! Runs over readers and writers that are slow, are interrupted or fail, in one round and in several, alone and on
-//! threads, and with memory refused.
+//! Runs over readers and writers that are slow, are interrupted or fail, in one round and in
+//! several, alone and on threads, and with memory refused.
+
 use super::streams::{Pause, PauseReader, Sink};
 use jlreport_cli::Options;
 use jlreport_engine::{Done, RunFault, run, run_alone};
@@ -94,8 +95,8 @@ pub enum By {
 }
 
 impl By {
-    /// The options of a run by this call, in pieces of a size, under a limit of refused lines. It reads in rounds of
-    /// the least size, and so takes little memory.
+    /// The options of a run by this call, in pieces of a size, under a limit of refused lines. It
+    /// reads in rounds of the least size, and so takes little memory.
     pub fn options(self, rt: &impl Abort, piece: usize, limit: Option<u64>) -> Options {
         let workers = match self {
             By::Alone => 4,
@@ -125,7 +126,8 @@ pub fn make_plan(rt: &impl Abort, alloc: Global, query: &str) -> Plan {
     plan_if_any(alloc, query).expect(rt, "a plan")
 }
 
-// A query or a plan is given up by a call: a drop in place is proved in place, for each form of a query.
+// A query or a plan is given up by a call: a drop in place is proved in place, for each form of a
+// query.
 
 /// The answer of a run by one of the calls.
 fn answer<R: Read + Drop + Send, O: Write, E: Write>(
@@ -178,8 +180,8 @@ const SIZES: [(usize, usize); 5] = [
     (67_108_864, 1_000_000),
 ];
 
-/// Asserts that a case is done by each call, in pieces of each size. A read that gives no byte is the end: what the
-/// reader would give behind it is not read.
+/// Asserts that a case is done by each call, in pieces of each size. A read that gives no byte is
+/// the end: what the reader would give behind it is not read.
 fn assert_done_by_all(
     rt: &(impl Abort + Threads + Wait + RandomSource + Sync),
     alloc: Global,
@@ -260,7 +262,8 @@ fn readers_that_fail(rt: HostRuntime) {
     }
 }
 
-/// A writer that takes so many bytes, two at most a call, and then pauses, or whose flush fails behind them.
+/// A writer that takes so many bytes, two at most a call, and then pauses, or whose flush fails
+/// behind them.
 fn sink(alloc: Global, room: usize, pause: Pause) -> Sink {
     Sink {
         room,
@@ -271,7 +274,8 @@ fn sink(alloc: Global, room: usize, pause: Pause) -> Sink {
     }
 }
 
-/// Asserts that a run whose report is not written leaves a beginning of it, and nothing of the list.
+/// Asserts that a run whose report is not written leaves a beginning of it, and nothing of the
+/// list.
 fn assert_report_cut(
     rt: &(impl Abort + Threads + Wait + RandomSource + Sync),
     alloc: Global,
@@ -314,7 +318,8 @@ const PAUSES: [Pause; 3] = [
     Pause::Error(ErrorKind::Interrupted),
 ];
 
-/// Asserts so of each write in turn, though the next would not fail, and behind all of them of the flush.
+/// Asserts so of each write in turn, though the next would not fail, and behind all of them of the
+/// flush.
 fn assert_each_cut(
     rt: &(impl Abort + Threads + Wait + RandomSource + Sync),
     alloc: Global,
@@ -406,8 +411,8 @@ fn prints_faults(rt: HostRuntime) -> Result<(), Fail> {
     Ok(())
 }
 
-/// Whether a call may answer this where memory is refused: the memory fault, or that a thread was not started where
-/// it starts threads.
+/// Whether a call may answer this where memory is refused: the memory fault, or that a thread was
+/// not started where it starts threads.
 pub fn is_refusal(by: By, fault: RunFault) -> bool {
     match by {
         By::Alone | By::Workers(1) => fault == RunFault::OutOfMemory,
@@ -415,8 +420,8 @@ pub fn is_refusal(by: By, fault: RunFault) -> bool {
     }
 }
 
-/// Where memory is refused the answer says so and nothing is written, else the report is. It takes no memory but the
-/// run's.
+/// Where memory is refused the answer says so and nothing is written, else the report is. It takes
+/// no memory but the run's.
 fn assert_answered(
     rt: &(impl Abort + Threads + Wait + RandomSource + Sync),
     alloc: Global,

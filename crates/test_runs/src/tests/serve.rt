@@ -1,4 +1,5 @@
 //! What the program says, and its status, where an output fails or memory is refused.
+
 use super::runs::{BY_D, BY_D_REPORT, COLUMNS, COUNT, THREE};
 use super::streams::{Pause, Sink};
 use jlreport_cli::settings;
@@ -54,7 +55,8 @@ fn assert_not_written(
     );
 }
 
-/// A report and an explanation, to a writer that takes a few bytes and then fails, or whose flush fails.
+/// A report and an explanation, to a writer that takes a few bytes and then fails, or whose flush
+/// fails.
 #[test]
 fn outputs_that_are_not_written(rt: HostRuntime) {
     let explanation = b"SELECT SUM(q) FROM lines\n0: ()\n".as_slice();
@@ -74,8 +76,9 @@ const OUT_OF_MEMORY: &[u8] = b"jlreport: out of memory\n\0";
 
 const THREAD_NOT_STARTED: &[u8] = b"jlreport: a thread could not be started\n\0";
 
-/// Asserts that the program writes this and ends so, or, where memory is refused, says so and ends with 4. Where only the
-/// text of a fault gets no memory, it says so and ends with the status of the fault.
+/// Asserts that the program writes this and ends so, or, where memory is refused, says so and ends
+/// with 4. Where only the text of a fault gets no memory, it says so and ends with the status of
+/// the fault.
 fn assert_served(
     rt: &(impl Abort + Threads + Wait + RandomSource + Sync),
     alloc: Global,

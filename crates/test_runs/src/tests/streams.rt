@@ -1,4 +1,5 @@
 //! Readers and writers that are slow, are interrupted, give or take nothing, or fail.
+
 use std::io;
 use std::io::{ErrorKind, Read, Write};
 
@@ -47,7 +48,8 @@ impl Read for PauseReader<'_> {
     }
 }
 
-/// A writer that takes some bytes, then pauses once, and then takes more; its flush fails where it is to.
+/// A writer that takes some bytes, then pauses once, and then takes more; its flush fails where it
+/// is to.
 #[derive(Drop)]
 pub struct Sink {
     pub room: usize,

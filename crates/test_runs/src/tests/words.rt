@@ -1,4 +1,5 @@
 //! The words of the command line, as `settings` reads them.
+
 use clap::error::ErrorKind;
 use jlreport_cli::{Options, WordsFault, settings};
 use std::process::Abort;

@@ -5,7 +5,8 @@ use Rattle.tables.specs.Inside.SetTables.{HaveProperty, sets_of_rolls, sets_of_t
 use Rattle.tables.proofs.SetTables.{HasPropertyWhereMade}
 use Rattle.tables.proofs.roll.tables_of_rolls.Given as goal
 
--- the sets of the tables and of the rolls that are left are those of all rolls; what the rolls had, the tables and these have
+-- the sets of the tables and of the rolls that are left are those of all rolls; what the rolls had,
+-- the tables and these have
 abbrev pub invariant-loop-roll : goal.invariant-loop-roll
 invariant-loop-roll l = record {
   sets : sets_of_tables l.tables.items ++ sets_of_rolls l.roll-iterator.rest.items ≡ sets_of_rolls l.fn.rolls.items;

@@ -12,7 +12,8 @@ use Rattle.group_tables.proofs.Counted.{IsCountedWith}
 use Rattle.group_tables.proofs.Rolling.{IsRolled}
 use Rattle.group_tables.proofs.table.Table.roll.Given as goal
 
--- the groups so far are those of the members of the keys so far, and those that are left are groups of this table; with these they have no more records, and they are of the types of this table
+-- the groups so far are those of the members of the keys so far, and those that are left are groups
+-- of this table; with these they have no more records, and they are of the types of this table
 abbrev pub invariant-loop-shard : goal.invariant-loop-shard
 invariant-loop-shard l = record {
   rolled : (filters : List (Record → Bool)) (rows : List Record) → IsTableOf l.finer (map (aggregate_of filters) l.functions) l.self rows
