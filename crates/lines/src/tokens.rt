@@ -8,7 +8,7 @@ mod skip;
 
 use crate::spare::Spare;
 use json::{Reader, Scratch, Token};
-use member::take_members;
+use members::take_members;
 use values::{Record, Schema};
 
 /// Reads a line as a record by its tokens; `None` says nothing of the line. Out of line, since few
