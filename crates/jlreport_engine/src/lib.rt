@@ -1,17 +1,17 @@
 //! What the program does, over any reader and writers.
 #![tactic(auto)]
 
-mod explain;
-mod join;
+mod explanation;
+mod joins;
 mod partial;
-mod run;
-mod seed;
-mod serve;
-mod write;
+mod program;
+mod runs;
+mod seeds;
+mod writer;
 
-pub use join::{join_partial, run_join};
+pub use joins::{join_partial, run_join};
 pub use partial::run_partial;
-pub use run::{run, run_alone};
+pub use program::serve;
+pub use runs::{run, run_alone};
 pub use semantics::{Done, JoinFault, RunFault};
-pub use serve::serve;
-pub use write::put;
+pub use writer::put;

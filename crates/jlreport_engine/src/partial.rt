@@ -5,8 +5,8 @@ ghost use Rattle.semantics.specs.Joins.{IsPartialRun};
 ghost use Rattle.semantics.specs.Run.{IsWithin};
 ghost use Rattle.jlreport_engine.specs.Inside.Run.{StandsForKnown};
 
-use crate::seed::random_seed;
-use crate::write::put_and_flush;
+use crate::seeds::random_seed;
+use crate::writer::put_and_flush;
 use jlreport_cli::Options;
 use jlreport_scan::gather;
 use parts::write_part;

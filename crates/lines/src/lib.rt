@@ -4,7 +4,7 @@
 
 mod bytes;
 mod columns;
-mod cut;
+mod cuts;
 mod demand;
 mod fault;
 mod input;
@@ -20,7 +20,7 @@ mod tokens;
 mod tree;
 mod utf8;
 
-pub use cut::cut;
+pub use cuts::cut;
 pub use demand::Demand;
 pub use fault::ReadFault;
 pub use laws::{clip_law, front_law};

@@ -5,7 +5,7 @@ ghost use Rattle.std.specs.Iterator.{YieldsFirstBy, YieldsFirstRef, item_count};
 ghost use Rattle.semantics.specs.Lines.{lines};
 ghost use Rattle.lines.specs.Checked.{line_bytes, lines_left};
 
-use crate::cut::split_piece;
+use crate::cuts::split_piece;
 use crate::split::{Lines, lines_of};
 use memchr::memchr;
 use std::iter::FusedIterator;

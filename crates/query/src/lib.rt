@@ -8,12 +8,12 @@
 #![tactic(auto)]
 
 mod laws;
-mod parse;
-mod print;
+mod parser;
+mod printer;
 
 pub use laws::{derives_one, derives_or_refused, reads_again};
-pub use parse::parse;
-pub use print::print;
+pub use parser::parse;
+pub use printer::print;
 pub use query_ast::{
     Aggregate, Expression, GroupingElement, Item, Key, Literal, Operand, Predicate, SetFunction,
     Text, Tree,

@@ -10,7 +10,7 @@ ghost use Rattle.query_eval.specs.Binding.{AreConditionsOf};
 ghost use Rattle.query_eval.specs.Meaning.{condition_truth, is_safe};
 ghost use Rattle.semantics.specs.Conditions.{same_truth};
 
-use crate::bind::bind;
+use crate::binder::bind;
 use crate::condition::Condition;
 use crate::scope::RecordScope;
 use query_ast::Predicate;

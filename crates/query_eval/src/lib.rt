@@ -1,13 +1,13 @@
 //! The truth value of a predicate, the records that WHERE keeps, and those that pass a FILTER.
 #![tactic(auto)]
 
-mod bind;
+mod binder;
 mod condition;
 mod filter_clause;
 mod scope;
 mod where_clause;
 
-pub use bind::bind;
+pub use binder::bind;
 pub use condition::{Condition, OperandSource};
 pub use filter_clause::{bind_filters, condition_truth_at, mark_conditions};
 pub use scope::Scope;

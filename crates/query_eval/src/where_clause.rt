@@ -7,7 +7,7 @@ ghost use Rattle.values.specs.Schema.{fields_of};
 ghost use Rattle.query_ast.specs.Syntax.{predicate_form};
 ghost use Rattle.query_eval.specs.Binding.{IsConditionOf, bound_safe, bound_truth};
 
-use crate::bind::bind;
+use crate::binder::bind;
 use crate::condition::Condition;
 use crate::scope::RecordScope;
 use query_ast::Predicate;

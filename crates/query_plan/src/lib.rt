@@ -2,16 +2,15 @@
 //! record, its headers and the texts of its grouping sets.
 #![tactic(auto)]
 
-mod check;
-mod holds;
+mod checker;
 mod plan;
-mod print;
+mod printer;
 mod query;
+mod truths;
 
-pub use check::check;
-pub use holds::{filter_holds, holds};
+pub use checker::check;
 pub use plan::Plan;
-pub use print::{filter_texts, header, set_text};
+pub use printer::{filter_texts, header, set_text};
 pub use query::Query;
 pub use query_ast::{
     Aggregate, Expression, GroupingElement, Item, Key, Literal, Operand, Predicate, SetFunction,
@@ -20,3 +19,4 @@ pub use query_ast::{
 pub use query_resolve::{ColumnFunction, FilteredFunction};
 pub use query_typecheck::typed_law;
 pub use semantics::QueryFault;
+pub use truths::{filter_holds, holds};
