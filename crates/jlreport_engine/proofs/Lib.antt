@@ -1,7 +1,7 @@
 mod Fronts
 mod Sending
 pub mod Explained
-pub mod Joins
+pub mod JoinLemmas
 pub mod Known
 pub mod Outcomes
 pub mod Served

@@ -5,13 +5,13 @@
 #![tactic(auto)]
 
 mod among;
-mod arrange;
+mod arrangement;
 mod fields;
 mod parts;
 mod refused_lines;
 mod text;
 
-pub use arrange::arrange;
+pub use arrangement::arrange;
 pub use refused_lines::{push_refused_line, refused_line_room, refused_text};
 pub use report_rows::{ReportRow, arranged_law, order_law};
 pub use text::{report_on, report_text};

@@ -2,7 +2,7 @@ use Rattle.std.proofs.Common.{subst}
 use Rattle.std.specs.Prelude.{IfErr, OnOk}
 use Rattle.semantics.specs.Run.{IsWithin}
 use Rattle.jlreport_engine.specs.Inside.Joined.{IsOver}
-use Rattle.jlreport_engine.proofs.Joins.{IsRead, of-mapped, of-over, of-read, of-refusal}
+use Rattle.jlreport_engine.proofs.JoinLemmas.{IsRead, of-mapped, of-over, of-read, of-refusal}
 use Rattle.jlreport_engine.proofs.joins.join_within.Goals as goal
 
 pub returns : goal.returns

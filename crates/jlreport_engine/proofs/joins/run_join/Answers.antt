@@ -1,7 +1,7 @@
 use Rattle.lines.specs.Clip.{clip_lines}
 use Rattle.parts.specs.ReadingParts.{parts_at}
 use Rattle.semantics.specs.Lines.{lines}
-use Rattle.jlreport_engine.proofs.Joins.{answers-run, is-join, join-stopped, join-unseeded, reads-done, reads-stopped, reads-unseeded, started-done, started-stopped, started-unseeded}
+use Rattle.jlreport_engine.proofs.JoinLemmas.{answers-run, is-join, join-stopped, join-unseeded, reads-done, reads-stopped, reads-unseeded, started-done, started-stopped, started-unseeded}
 use Rattle.jlreport_engine.proofs.joins.run_join.Goals as goal
 
 pub returns-clause-join : goal.returns-clause-join

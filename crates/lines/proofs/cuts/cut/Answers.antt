@@ -2,7 +2,7 @@ use Rattle.std.proofs.Common.{◌≡◌, ◌<◌, ◌≤◌, length, arith, subs
 use Rattle.std.proofs.lemmas.List.Elements.{All-push, recursion_from_All}
 use Rattle.lines.specs.declared.pieces.Piece.{Piece}
 use Rattle.lines.specs.Pieces.{AreConsecutive, IsStop}
-use Rattle.lines.proofs.Cuts.{consecutive_more, joined_more, lines_more, joined_all, lines_all}
+use Rattle.lines.proofs.CutLemmas.{consecutive_more, joined_more, lines_more, joined_all, lines_all}
 use Rattle.lines.proofs.Ends.{pieces-feeds}
 use Rattle.lines.proofs.cuts.cut.Goals as goal
 

@@ -1,4 +1,4 @@
-use Rattle.lines.proofs.Cuts.{lines_first_piece}
+use Rattle.lines.proofs.CutLemmas.{lines_first_piece}
 use Rattle.lines.proofs.cuts.split_piece.Goals as goal
 
 pub returns-clause-lines : goal.returns-clause-lines

@@ -5,7 +5,7 @@ use Rattle.semantics.specs.ResultRows.{ResultRow}
 use Rattle.group_tables.specs.Found.{row_of}
 use Rattle.semantics.specs.Order.{report_values}
 use Rattle.report_rows.specs.Shown.{cells_of}
-use Rattle.report.proofs.arrange.arrange.Goals as goal
+use Rattle.report.proofs.arrangement.arrange.Goals as goal
 
 pub arranged_rows-requires : goal.arranged_rows-requires
 arranged_rows-requires c =
