@@ -4,7 +4,7 @@ pub mod Cells
 pub mod Bags
 pub mod Ascending
 pub mod GroupSummaries
-pub mod Found
+pub mod GroupRows
 pub mod Fitting
 pub mod Rolled
 pub mod Values

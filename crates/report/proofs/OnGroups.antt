@@ -6,7 +6,7 @@ use Rattle.semantics.specs.Sets.{sets_of}
 use Rattle.query_plan.specs.Planned.{PlannedQuery}
 use Rattle.group_tables.specs.declared.group.Group.{Group}
 use Rattle.semantics.specs.ResultRows.{ResultRow}
-use Rattle.group_tables.specs.Found.{row_of}
+use Rattle.group_tables.specs.GroupRows.{row_of}
 use Rattle.report_rows.specs.declared.source.ValueSource.{ValueSource}
 use Rattle.semantics.specs.Order.{sorted_rows, report_values}
 use Rattle.semantics.specs.Rows.{row_values}

@@ -1,7 +1,7 @@
 //! The bytes of a report, whose rows are written by the calling thread alone or by several.
 
 ghost use Rattle.std.specs.Prelude.{◌≡◌, ◌<◌, All, IfOk, length, map};
-ghost use Rattle.group_tables.specs.Found.{row_of};
+ghost use Rattle.group_tables.specs.GroupRows.{row_of};
 ghost use Rattle.semantics.specs.Texts.{report_bytes};
 ghost use Rattle.report.specs.Inside.Text.{rows_bytes};
 ghost use Rattle.report.specs.Inside.Parts.{AreTextsOf};
@@ -29,7 +29,7 @@ struct WriteReport<'a> {
 
 impl<'a> Operation for WriteReport<'a> {
     ghost use Rattle.std.specs.Prelude.{◌≡◌, ◌<◌, All, IfOk, length, map};
-    ghost use Rattle.group_tables.specs.Found.{row_of};
+    ghost use Rattle.group_tables.specs.GroupRows.{row_of};
     ghost use Rattle.report_rows.specs.Sources.{cells_at};
     ghost use Rattle.semantics.specs.Texts.{report_bytes};
 

@@ -7,7 +7,7 @@ use Rattle.query_plan.specs.Planned.{PlannedQuery}
 use Rattle.group_tables.specs.declared.group.Group.{Group}
 use Rattle.group_tables.specs.Fitting.{AreFitting}
 use Rattle.semantics.specs.ResultRows.{ResultRow}
-use Rattle.group_tables.specs.Found.{row_of}
+use Rattle.group_tables.specs.GroupRows.{row_of}
 use Rattle.semantics.specs.Rows.{rows_having_true}
 use Rattle.report_rows.specs.Planned.{HasSetUnder}
 use Rattle.semantics.specs.Order.{sorted_rows, row_order, sorted_by}

@@ -18,7 +18,7 @@ use Rattle.query_typecheck.proofs.WholeLemmas.{none_from_typed, typed_from_none}
 use Rattle.group_tables.specs.declared.group.Group.{Group}
 use Rattle.group_tables.specs.Fitting.{AreFitting, HasType, IsHeld}
 use Rattle.semantics.specs.ResultRows.{set_of, ResultRow}
-use Rattle.group_tables.specs.Found.{row_of}
+use Rattle.group_tables.specs.GroupRows.{row_of}
 use Rattle.semantics.specs.Rows.{is_having_true, rows_having_true}
 use Rattle.semantics.specs.Order.{sorted_rows, row_order}
 use Rattle.report_rows.proofs.Filtering.{fit-having_true}

@@ -29,7 +29,7 @@ use Rattle.query_eval.specs.Meaning.{condition_truth, is_of, is_safe}
 use Rattle.query_plan.specs.Planned.{PlannedQuery}
 use Rattle.group_tables.specs.declared.group.Group.{Group}
 use Rattle.group_tables.specs.Fitting.{AreFitting}
-use Rattle.group_tables.specs.Found.{row_of}
+use Rattle.group_tables.specs.GroupRows.{row_of}
 use Rattle.report_rows.specs.declared.source.ValueSource.TheVariants.{KeyAt, CellAt}
 use Rattle.report_rows.specs.Inside.Having.{AreHaving, IsHavingFor, having_truth, row_scope, row_values}
 use Rattle.report_rows.specs.Inside.Planned.{FitsUnder}

@@ -22,7 +22,7 @@ use Rattle.semantics.specs.Groups.{key_order}
 use Rattle.group_tables.specs.Bags.{SameBag}
 use Rattle.group_tables.proofs.Order.{key_antisymmetric}
 use Rattle.semantics.specs.ResultRows.{ResultRow, set_of}
-use Rattle.group_tables.specs.Found.{row_of}
+use Rattle.group_tables.specs.GroupRows.{row_of}
 use Rattle.semantics.specs.Rows.{rows_having_true}
 use Rattle.semantics.specs.Order.{grouping_values, compare_by_key, compare_by_keys, row_order, sorted_by, sorted_rows}
 use Rattle.group_tables.specs.Ascending.{NoneBefore, Ascends}

@@ -1,7 +1,7 @@
 //! The rows of a report in their order.
 
 ghost use Rattle.std.specs.Prelude.{◌≡◌, ◌<◌, All, IfOk, length, map};
-ghost use Rattle.group_tables.specs.Found.{row_of};
+ghost use Rattle.group_tables.specs.GroupRows.{row_of};
 ghost use Rattle.group_tables.specs.Fitting.{AreFitting};
 ghost use Rattle.report_rows.specs.Planned.{HasSetUnder};
 ghost use Rattle.semantics.specs.Order.{sorted_rows, report_values};

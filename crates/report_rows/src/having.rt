@@ -1,7 +1,7 @@
 //! The rows of which HAVING is True.
 
 ghost use Rattle.std.specs.Prelude.{◌≡◌, IfOk, map};
-ghost use Rattle.group_tables.specs.Found.{row_of};
+ghost use Rattle.group_tables.specs.GroupRows.{row_of};
 ghost use Rattle.group_tables.specs.Fitting.{AreFitting};
 ghost use Rattle.semantics.specs.Rows.{rows_having_true};
 ghost use Rattle.report_rows.specs.Inside.Having.{AreHaving};

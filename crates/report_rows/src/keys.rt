@@ -9,7 +9,7 @@ ghost use Rattle.query_ast.specs.Syntax.{key_form};
 ghost use Rattle.sort_keys.specs.Codes.{IsCodable, key_code};
 ghost use Rattle.sort_keys.specs.SortKeys.{key_parts};
 ghost use Rattle.group_tables.specs.Cells.{summary_of};
-ghost use Rattle.group_tables.specs.Found.{row_of};
+ghost use Rattle.group_tables.specs.GroupRows.{row_of};
 ghost use Rattle.report_rows.specs.declared.source.ValueSource.TheVariants.{CellAt};
 ghost use Rattle.report_rows.specs.Sources.{shown_at};
 ghost use Rattle.report_rows.specs.Inside.SortEntries.{AreCodable, IsCodableRow, coded_code, coded_form, coded_value, entry_at, keys_code, value_at_source};

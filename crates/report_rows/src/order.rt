@@ -4,7 +4,7 @@ ghost use Rattle.std.specs.Prelude.{◌≡◌, ◌<◌, ◌++◌, IfOk, OnOk, ma
 ghost use Rattle.std.specs.List.{AllByRecursion, flat_map};
 ghost use Rattle.std.specs.List.Sorted.{IsPermutation, IsSortedBy};
 ghost use Rattle.std.specs.Ordering.{is_lt};
-ghost use Rattle.group_tables.specs.Found.{row_of};
+ghost use Rattle.group_tables.specs.GroupRows.{row_of};
 ghost use Rattle.group_tables.specs.Fitting.{AreFitting};
 ghost use Rattle.semantics.specs.Order.{row_order, sorted_by};
 ghost use Rattle.report_rows.specs.Parts.{AreMade, items_of};
@@ -31,7 +31,7 @@ struct PutInOrder<'a, 'p, 'v> {
 
 impl<'a, 'p, 'v> Operation for PutInOrder<'a, 'p, 'v> {
     ghost use Rattle.std.specs.Prelude.{◌≡◌, IfOk, map};
-    ghost use Rattle.group_tables.specs.Found.{row_of};
+    ghost use Rattle.group_tables.specs.GroupRows.{row_of};
     ghost use Rattle.group_tables.specs.Fitting.{AreFitting};
     ghost use Rattle.semantics.specs.Order.{row_order, sorted_by};
 

@@ -9,7 +9,7 @@ use Rattle.semantics.specs.Groups.{Record, SetGroup, keys, members}
 use Rattle.semantics.specs.ResultRows.{group_summary, ResultRow, rows_of_groups, row_of_group}
 use Rattle.group_tables.specs.GroupSummaries.{group_summaries, group_summary_in}
 use Rattle.group_tables.specs.Bags.{SameBag}
-use Rattle.group_tables.specs.Found.{rows_from}
+use Rattle.group_tables.specs.GroupRows.{rows_from}
 use Rattle.group_tables.proofs.Bags.{sum_by-map}
 use Rattle.tables.specs.Inside.Sets.{AreGroupsOfSet}
 

@@ -16,7 +16,7 @@ use Rattle.semantics.specs.Sets.{sets_of}
 use Rattle.semantics.specs.Syntax.{Predicate, Query}
 use Rattle.group_tables.specs.declared.group.Group.{Group}
 use Rattle.group_tables.specs.Fitting.{AreFitting, HasType}
-use Rattle.group_tables.specs.Found.{rows_from}
+use Rattle.group_tables.specs.GroupRows.{rows_from}
 use Rattle.group_tables.specs.GroupSummaries.{group_summary_in}
 use Rattle.group_tables.specs.Typed.{AreOfTypes, IsKeyOf}
 use Rattle.tables.proofs.Bags.{all-append}

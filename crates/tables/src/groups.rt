@@ -3,7 +3,7 @@
 ghost use Rattle.std.specs.Prelude.{◌≡◌, map};
 ghost use Rattle.std.proofs.Props.{props};
 ghost use Rattle.tables.specs.Planned.{FitSomePlan};
-ghost use Rattle.group_tables.specs.Found.{row_of};
+ghost use Rattle.group_tables.specs.GroupRows.{row_of};
 
 use group_tables::{Executor, Group, Operation};
 use lines::LineFault;
@@ -44,7 +44,7 @@ impl Drop for Groups {
 
 impl Model for Groups {
     ghost use Rattle.std.specs.Prelude.{map};
-    ghost use Rattle.group_tables.specs.Found.{row_of};
+    ghost use Rattle.group_tables.specs.GroupRows.{row_of};
     ghost use Rattle.tables.specs.States.{GroupsState};
 
     ghost Value = { GroupsState };

@@ -4,7 +4,7 @@ ghost use Rattle.std.specs.Prelude.{◌≡◌, ◌++◌, ℕ, IfOk, OnOk, List, 
 ghost use Rattle.semantics.specs.Groups.{Record};
 ghost use Rattle.group_tables.specs.GroupSummaries.{group_summary_in};
 ghost use Rattle.group_tables.specs.Bags.{SameBag};
-ghost use Rattle.group_tables.specs.Found.{row_of, rows_from};
+ghost use Rattle.group_tables.specs.GroupRows.{row_of, rows_from};
 ghost use Rattle.group_tables.specs.Table.{HasFewRecords};
 ghost use Rattle.query_resolve.specs.Functions.{indexed_functions};
 ghost use Rattle.tables.specs.Inside.Folding.{IsTableOfKept};

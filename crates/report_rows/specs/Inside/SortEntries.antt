@@ -23,7 +23,7 @@ use Rattle.sort_keys.specs.Codes.{IsCodable, index_code, key_code, values_code}
 use Rattle.sort_keys.specs.SortKeys.{SortParts, key_parts, parts_of, parts_order}
 use Rattle.group_tables.specs.declared.group.Group.{Group}
 use Rattle.group_tables.specs.Cells.{summary_of}
-use Rattle.group_tables.specs.Found.{row_of}
+use Rattle.group_tables.specs.GroupRows.{row_of}
 use Rattle.report_rows.specs.declared.coded_key.CodedKey.{CodedKey}
 use Rattle.report_rows.specs.declared.sort_entry.SortEntry.{SortEntry}
 use Rattle.semantics.specs.Order.{row_order, grouping_values, compare_by_key, compare_by_keys}

@@ -2,7 +2,7 @@ use Rattle.std.proofs.Common.{◌≡◌, ◌∙◌, ◌*◌, ℕ, Bor, List, IfO
 use Rattle.std.proofs.lemmas.List.{drop-map, length-map, take-map}
 use Rattle.semantics.specs.Aggregates.{CellValue}
 use Rattle.group_tables.specs.declared.group.Group.{Group}
-use Rattle.group_tables.specs.Found.{row_of}
+use Rattle.group_tables.specs.GroupRows.{row_of}
 use Rattle.report.specs.Inside.Parts.{IsTextOf}
 use Rattle.report_rows.specs.Sources.{cells_at}
 use Rattle.report.specs.Inside.Text.{rows_bytes}

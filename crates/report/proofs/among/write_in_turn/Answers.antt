@@ -2,7 +2,7 @@ use Rattle.std.proofs.Common.{Bor, ℕ, Some, map}
 use Rattle.csv.specs.Writing.{text_written}
 use Rattle.group_tables.specs.declared.group.Group.{Group}
 use Rattle.std.proofs.lemmas.Result.{IfOk-weaker}
-use Rattle.group_tables.specs.Found.{row_of}
+use Rattle.group_tables.specs.GroupRows.{row_of}
 use Rattle.report_rows.specs.Sources.{cells_at}
 use Rattle.report.proofs.Written.{report-written}
 use Rattle.report.proofs.among.write_in_turn.Goals as goal

@@ -2,7 +2,7 @@ use Rattle.std.proofs.Common.{◌≡◌, All, IfOk, List, length, map, subst, sy
 use Rattle.query_plan.specs.Planned.{PlannedQuery}
 use Rattle.group_tables.specs.Fitting.{AreFitting}
 use Rattle.semantics.specs.ResultRows.{ResultRow}
-use Rattle.group_tables.specs.Found.{row_of}
+use Rattle.group_tables.specs.GroupRows.{row_of}
 use Rattle.semantics.specs.Order.{report_values}
 use Rattle.report_rows.specs.Shown.{cells_of}
 use Rattle.report.proofs.arrangement.arrange.Goals as goal

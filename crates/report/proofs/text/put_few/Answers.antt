@@ -2,7 +2,7 @@ use Rattle.std.proofs.Common.{◌≡◌, ◌∙◌, ◌+◌, ◌<◌, Bor, ℕ, 
 use Rattle.std.proofs.lemmas.Option.{slice_get_read}
 use Rattle.csv.specs.Writing.{text_written}
 use Rattle.group_tables.specs.declared.group.Group.{Group}
-use Rattle.group_tables.specs.Found.{row_of}
+use Rattle.group_tables.specs.GroupRows.{row_of}
 use Rattle.report_rows.specs.Sources.{cells_at, shown_at}
 use Rattle.report_rows.proofs.Maps.{map-next}
 use Rattle.report.proofs.Written.{appended-next, appended-none}

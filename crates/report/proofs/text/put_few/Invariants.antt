@@ -2,7 +2,7 @@ use Rattle.std.proofs.Common.{Bor, ℕ, Some, map, take}
 use Rattle.std.specs.Io.KnownBytes.{Appends}
 use Rattle.csv.specs.Writing.{text_written}
 use Rattle.group_tables.specs.declared.group.Group.{Group}
-use Rattle.group_tables.specs.Found.{row_of}
+use Rattle.group_tables.specs.GroupRows.{row_of}
 use Rattle.report.specs.Inside.Between.{IsBetweenRows}
 use Rattle.report_rows.specs.Sources.{cells_at}
 use Rattle.report.specs.Inside.Text.{rows_bytes}

@@ -4,7 +4,7 @@ use Rattle.std.proofs.KnownBytes.{Appends-trans}
 use Rattle.csv.specs.Writing.{text_written}
 use Rattle.group_tables.specs.declared.group.Group.{Group}
 use Rattle.semantics.specs.Aggregates.{CellValue}
-use Rattle.group_tables.specs.Found.{row_of}
+use Rattle.group_tables.specs.GroupRows.{row_of}
 use Rattle.report_rows.specs.Sources.{cells_at}
 use Rattle.report.specs.Inside.Text.{rows_bytes}
 use Rattle.report_rows.proofs.Maps.{map-more}

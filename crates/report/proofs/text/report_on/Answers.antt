@@ -4,7 +4,7 @@ use Rattle.semantics.specs.Aggregates.{CellValue}
 use Rattle.std.proofs.lemmas.Result.{IfOk-weaker}
 use Rattle.group_tables.specs.Fitting.{AreFitting}
 use Rattle.semantics.specs.ResultRows.{ResultRow}
-use Rattle.group_tables.specs.Found.{row_of}
+use Rattle.group_tables.specs.GroupRows.{row_of}
 use Rattle.semantics.specs.Order.{report_values}
 use Rattle.semantics.specs.Texts.{report_bytes}
 use Rattle.report.proofs.OnGroups.{groups-shown, groups-within}

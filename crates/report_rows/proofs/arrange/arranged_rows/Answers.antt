@@ -6,7 +6,7 @@ use Rattle.semantics.specs.Sets.{sets_of}
 use Rattle.group_tables.specs.declared.group.Group.{Group}
 use Rattle.semantics.specs.Aggregates.{CellValue}
 use Rattle.semantics.specs.ResultRows.{ResultRow}
-use Rattle.group_tables.specs.Found.{row_of}
+use Rattle.group_tables.specs.GroupRows.{row_of}
 use Rattle.semantics.specs.Order.{sorted_rows}
 use Rattle.report_rows.specs.Shown.{cells_of}
 use Rattle.semantics.specs.Rows.{row_values}

@@ -2,7 +2,7 @@ use Rattle.std.proofs.Common.{◌≡◌, ◌++◌, ◌<◌, Bor, ℕ, length, ma
 use Rattle.std.specs.List.{AllByRecursion}
 use Rattle.semantics.specs.Sets.{sets_of}
 use Rattle.group_tables.specs.declared.group.Group.{Group}
-use Rattle.group_tables.specs.Found.{row_of}
+use Rattle.group_tables.specs.GroupRows.{row_of}
 use Rattle.semantics.specs.Order.{report_values}
 use Rattle.report_rows.specs.Shown.{cells_of}
 use Rattle.semantics.specs.Rows.{row_values}

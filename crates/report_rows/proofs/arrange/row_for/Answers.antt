@@ -1,6 +1,6 @@
 use Rattle.std.proofs.Common.{◌∙◌, List, map, ap, take_all}
 use Rattle.group_tables.specs.Cells.{summary_of}
-use Rattle.group_tables.specs.Found.{row_of}
+use Rattle.group_tables.specs.GroupRows.{row_of}
 use Rattle.report_rows.specs.declared.source.ValueSource.{ValueSource}
 use Rattle.report_rows.specs.Sources.{shown_at}
 use Rattle.report_rows.proofs.Maps.{map-pushed}

@@ -1,7 +1,7 @@
 use Rattle.std.proofs.Common.{◌∙◌, Bor, ℕ, map, refl}
 use Rattle.std.proofs.lemmas.Result.{IfOk-weaker}
 use Rattle.group_tables.specs.declared.group.Group.{Group}
-use Rattle.group_tables.specs.Found.{row_of}
+use Rattle.group_tables.specs.GroupRows.{row_of}
 use Rattle.report_rows.proofs.Arranged.{arranged-sets, true-arranged, true-fit}
 use Rattle.report_rows.proofs.arrange.shown_groups.Goals as goal
 

@@ -8,7 +8,7 @@ use Rattle.std.proofs.lemmas.Slice.Zip.{AllZip-long}
 use Rattle.semantics.specs.Sets.{sets_of}
 use Rattle.values.specs.Datum.{data_of}
 use Rattle.group_tables.specs.declared.group.Group.{Group}
-use Rattle.group_tables.specs.Found.{row_of}
+use Rattle.group_tables.specs.GroupRows.{row_of}
 use Rattle.semantics.specs.Rows.{rows_having_true}
 use Rattle.report_rows.specs.Inside.Having.{AreHaving, IsHavingFor, having_truth}
 use Rattle.report_rows.proofs.Keeping.{all-having_true, group-fits}

@@ -1,6 +1,6 @@
 use Rattle.std.proofs.Common.{◌∙◌, ◌++◌, List, append-nil, ap, map, subst, sym}
 use Rattle.std.proofs.lemmas.List.{at_drop_all}
-use Rattle.group_tables.specs.Found.{row_of}
+use Rattle.group_tables.specs.GroupRows.{row_of}
 use Rattle.report_rows.specs.declared.coded_key.CodedKey.{CodedKey}
 use Rattle.report_rows.specs.Inside.SortEntries.{AreCodable, coded_form, keys_code}
 use Rattle.report_rows.proofs.Placed.{code-next, keys-next}

@@ -1,5 +1,5 @@
 use Rattle.std.proofs.Common.{◌≡◌, ◌++◌, drop, map}
-use Rattle.group_tables.specs.Found.{row_of}
+use Rattle.group_tables.specs.GroupRows.{row_of}
 use Rattle.report_rows.specs.Inside.SortEntries.{AreCodable, coded_form, keys_code}
 use Rattle.report_rows.proofs.keys.put_keys.Given as goal
 

@@ -5,7 +5,7 @@ use Rattle.values.specs.Datum.{data_of}
 use Rattle.values.specs.declared.value.Value.{Value}
 use Rattle.sort_keys.specs.Codes.{IsCodable}
 use Rattle.sort_keys.specs.SortKeys.{parts_of}
-use Rattle.group_tables.specs.Found.{row_of}
+use Rattle.group_tables.specs.GroupRows.{row_of}
 use Rattle.report_rows.specs.Inside.SortEntries.{coded_form}
 use Rattle.report_rows.proofs.Placed.{on-ok, row-whole}
 use Rattle.report_rows.proofs.keys.row_key.Goals as goal

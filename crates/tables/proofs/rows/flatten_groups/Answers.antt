@@ -1,7 +1,7 @@
 use Rattle.std.proofs.Common.{◌++◌, ℕ, List, map, Vec, Global, sym, ap, ◌∙◌, append_assoc}
 use Rattle.group_tables.specs.declared.group.Group.{Group}
 use Rattle.group_tables.specs.GroupSummaries.{group_summary_in}
-use Rattle.group_tables.specs.Found.{row_of, rows_from}
+use Rattle.group_tables.specs.GroupRows.{row_of, rows_from}
 use Rattle.tables.proofs.rows.flatten_groups.Goals as goal
 
 pub loop-index-preserved : goal.loop-index-preserved

@@ -1,5 +1,5 @@
 use Rattle.std.proofs.Common.{◌≡◌, ◌++◌, map}
-use Rattle.group_tables.specs.Found.{row_of, rows_from}
+use Rattle.group_tables.specs.GroupRows.{row_of, rows_from}
 use Rattle.tables.proofs.rows.flatten_groups.Given as goal
 
 -- the rows so far and those of the sets that are left are all

@@ -1,6 +1,6 @@
 use Rattle.std.proofs.Common.{◌≡◌, ◌++◌, map}
 use Rattle.group_tables.specs.GroupSummaries.{group_summary_in}
-use Rattle.group_tables.specs.Found.{row_of}
+use Rattle.group_tables.specs.GroupRows.{row_of}
 use Rattle.tables.proofs.rows.put_groups.Given as goal
 
 -- the rows so far and those of the groups that are left are all
