@@ -15,9 +15,9 @@ mod value;
 mod words;
 
 pub use bytes::{byte_at, space_end};
-pub use numbers::{number_end, whole_number_at};
+pub use numbers::whole_number_at;
 pub use numerals::{has_value, whole_number};
 pub use plain::is_plain;
-pub use strings::{plain_string_end, push_content, string_end};
+pub use strings::{plain_string_end, push_content};
 pub use value::value_end;
 pub use words::{bool_at, null_end};

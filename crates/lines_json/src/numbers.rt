@@ -20,7 +20,7 @@ use short::short_number_at;
 ///
 /// Example: of the text `[-1.5e3]` it answers 7 at 1.
 #[inline(always)]
-pub fn number_end(text: &[u8], at: usize) -> Option<usize>
+pub(crate) fn number_end(text: &[u8], at: usize) -> Option<usize>
     requires { at ≤ length text.now }
     ensures { IfSome result (λ stop. (digits : List ℕ)
         × IsTokenAt text.now at stop (number digits) × (is_some (number_of digits) ≡ true)) }

@@ -13,7 +13,7 @@ use crate::plain::plain_end;
 ///
 /// Example: of the text `r#""a\n""#` it answers 4 at 1.
 #[inline(always)]
-pub fn string_end(text: &[u8], from: usize) -> Option<usize>
+pub(crate) fn string_end(text: &[u8], from: usize) -> Option<usize>
     requires { from ≤ length text.now }
     ensures { IfSome result (λ quote. (bytes : List ℕ) × IsStringOf text.now from quote bytes) }
 {

@@ -124,7 +124,8 @@ pub enum Next {
     Piece(u32),
     /// The hand's own deque is empty for good, and one try at each other deque gave nothing.
     Spent,
-    /// The hand's own deque was refused memory, and the hand has what it had.
+    /// The hand's own deque was refused memory, and the hand has what it had. `next` never answers
+    /// this: a deal has all of its memory before the first hand takes a piece.
     Memory,
 }
 
