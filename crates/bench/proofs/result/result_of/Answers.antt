@@ -4,7 +4,7 @@ use Rattle.tables.proofs.Sharing.{parallel_sync, job_by_sync}
 use Rattle.jlreport_scan.proofs.Cuts.{same-lines}
 use Rattle.jlreport_scan.proofs.Pooled.{few-loads}
 use Rattle.bench.proofs.Stands.{is-job, stands-for}
-use Rattle.bench.proofs.fold.result_of.Goals as goal
+use Rattle.bench.proofs.result.result_of.Goals as goal
 
 pub fan_out-requires-sync-W : goal.fan_out-requires-sync-W
 fan_out-requires-sync-W g c κs within = search (job_by_sync, parallel_sync, sendable) depth 20
