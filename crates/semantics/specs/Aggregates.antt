@@ -22,7 +22,7 @@ non_null values = filter is_non_null values
 abbrev pub column_values : ℕ → List Record → List Datum
 column_values place rows = non_null (map (value_at place) rows)
 
--- The whole number that a value is, where it is one.
+-- The whole number that a value is, if it is one.
 abbrev pub number_of : Datum → Option ℤ
 number_of (whole n) = Some n
 number_of d = None
@@ -40,7 +40,7 @@ pub data CellValue : Type 0 where
   plain : Datum → CellValue
   ratio : ℤ → ℕ → CellValue
 
--- Two values are not distinct where neither is before the other in the order of all values; so NULL
+-- Two values are not distinct if neither is before the other in the order of all values; so NULL
 -- is not distinct from NULL.
 abbrev pub same_value : Datum → Datum → Bool
 same_value x y = eq_by_cmp value_order x y
@@ -79,12 +79,12 @@ value_over (function.Min place) rows = plain (minimum (column_values place rows)
 value_over (function.Max place) rows = plain (maximum (column_values place rows))
 value_over (function.Avg place) rows = average_of (column_numbers place rows)
 
--- A set function, and which records its FILTER keeps, where it has one.
+-- A set function, and which records its FILTER keeps, if it has one.
 pub record AggregateFunction : Type 0 where
   pub function : ColumnFunction
   pub filter : Option (Record → Bool)
 
--- The records that a FILTER keeps, and all where there is none.
+-- The records that a FILTER keeps, and all if there is none.
 abbrev pub filtered_rows : Option (Record → Bool) → List Record → List Record
 filtered_rows test rows = option_map_or (λ keeps. filter keeps rows) test rows
 

@@ -68,7 +68,7 @@ truth_text truth.True = codes "TRUE"
 truth_text truth.False = codes "FALSE"
 truth_text truth.Unknown = codes "UNKNOWN"
 
--- NOT, where it is written.
+-- NOT, if it is written.
 abbrev pub not_text : Bool → List ℕ
 not_text n = if n then codes "NOT " else []
 
@@ -87,7 +87,7 @@ precedence (member a n ls) = 4
 precedence (null_test a n) = 4
 precedence (column n) = 4
 
--- A part of a predicate stands in brackets exactly where it holds together less tightly than its
+-- A part of a predicate stands in brackets exactly if it holds together less tightly than its
 -- place asks.
 abbrev pub bracketed_below : ℕ → ℕ → List ℕ → List ℕ
 bracketed_below least has text = if nat_lt has least then in_brackets text else text
@@ -99,7 +99,7 @@ abbrev mutual
   expression_text (grouping ns) = codes "GROUPING(" ++ names_text ns ++ codes ")"
   expression_text (function f) = function_text f
 
-  -- A set function, with its FILTER where it has one.
+  -- A set function, with its FILTER if it has one.
   pub function_text : SetFunction → List ℕ
   function_text (over_all f) = aggregate_text f
   function_text (over_filtered f p) =
@@ -158,18 +158,18 @@ abbrev mutual
 
 -- ---- the query
 
--- An item: its expression, and its alias behind AS, where it has one.
+-- An item: its expression, and its alias after AS, if it has one.
 abbrev pub item_text : SelectItem → List ℕ
 item_text i =
     expression_text i.expression ++ option_map_or (λ n. codes " AS " ++ name_text n) i.alias []
 
--- Where NULL stands is written only where it is not the default: last under ASC, first under DESC.
+-- Where NULL stands is written only if it is not the default: last under ASC, first under DESC.
 abbrev pub nulls_text : Bool → Bool → List ℕ
 nulls_text true false = codes " NULLS LAST"
 nulls_text false true = codes " NULLS FIRST"
 nulls_text descending nulls_first = []
 
--- DESC, where it is written.
+-- DESC, if it is written.
 abbrev pub direction_text : Bool → List ℕ
 direction_text descending = if descending then codes " DESC" else []
 
@@ -179,16 +179,16 @@ key_text k =
     expression_text k.expression ++ direction_text k.descending
     ++ nulls_text k.descending k.nulls_first
 
--- A clause of one predicate, where there is one.
+-- A clause of one predicate, if there is one.
 abbrev pub predicate_clause : List ℕ → Option Predicate → List ℕ
 predicate_clause keywords written = option_map_or (λ p. keywords ++ predicate_text p) written []
 
--- A clause of a list, where the list has an element.
+-- A clause of a list, if the list has an element.
 abbrev pub list_clause : List ℕ → List (List ℕ) → List ℕ
 list_clause keywords [] = []
 list_clause keywords (first ∷ others) = keywords ++ comma_list (first ∷ others)
 
--- The keywords of GROUP BY, and DISTINCT where it is written.
+-- The keywords of GROUP BY, and DISTINCT if it is written.
 abbrev pub group_by_text : Bool → List ℕ
 group_by_text distinct = if distinct then codes " GROUP BY DISTINCT " else codes " GROUP BY "
 
@@ -203,11 +203,11 @@ canonical_text t =
 
 -- ---- headers and sets
 
--- The header of an item: its alias, or the canonical text of its expression where it has none.
+-- The header of an item: its alias, or the canonical text of its expression if it has none.
 abbrev pub header_text : SelectItem → List ℕ
 header_text i = unwrap_or i.alias (expression_text i.expression)
 
--- The name of the column at a place, empty where there is none.
+-- The name of the column at a place, empty if there is none.
 abbrev pub name_at : List Field → ℕ → List ℕ
 name_at fields place = unwrap_or (slice_get (names_of fields) place) []
 

@@ -15,7 +15,7 @@ IsNumber text n =
     × (digits_value 10 (without_leading_plus text) < 2 ^ 64)
     × (n ≡ digits_value 10 (without_leading_plus text))
 
--- The number that the text writes, where there is a text and it writes one.
+-- The number that the text writes, if there is a text and it writes one.
 abbrev pub IsNumberIn : Option Text → Option ℕ → Type 0
 IsNumberIn None None = ⊤
 IsNumberIn None (Some n) = ⊥
@@ -52,7 +52,7 @@ flag name = record (new_rule name) { long = Some name; action = Some SetTrue }
 
 -- `jlreport --columns <SPEC> --query <TEXT> [--workers <N>] [--piece <BYTES>] [--max-refused <N>]
 -- [--explain] [--partial] [--join] [--progress] <FILE>`, with 4 workers and pieces of 1,048,576
--- bytes where they are not given; `--help` and `--version` ask for a text instead.
+-- bytes if they are not given; `--help` and `--version` ask for a text instead.
 abbrev pub command : App
 command =
     fold with_rule (record (new_app (codes "jlreport")) {

@@ -50,7 +50,7 @@ between_truth x y z = conjunction (comparison Ge x y) (comparison Le x z)
 abbrev pub member_truth : Datum → List Datum → Truth
 member_truth x values = any_of (map (comparison Eq x) values)
 
--- A bare name is true where its value is TRUE, false where it is FALSE and unknown where it is
+-- A bare name is true if its value is TRUE, false if it is FALSE and unknown if it is
 -- NULL, as in x = TRUE.
 abbrev pub value_truth : Datum → Truth
 value_truth x = comparison Eq x (boolean true)
@@ -73,7 +73,7 @@ operand_value v (expression e) = v e
 operand_value v (literal a) = literal_value a
 
 abbrev mutual
-  -- The truth value of a predicate, where expressions have these values.
+  -- The truth value of a predicate, if expressions have these values.
   pub truth : Valuation → Predicate → Truth
   truth v (or_of ps) = any_of (truths v ps)
   truth v (and_of ps) = all_of (truths v ps)
@@ -91,7 +91,7 @@ abbrev mutual
   truths v no_parts = []
   truths v (part p ps) = truth v p ∷ truths v ps
 
--- The value of the column of a name in a record, NULL where there is no such column.
+-- The value of the column of a name in a record, NULL if there is no such column.
 abbrev pub column_value : List Field → List Datum → List ℕ → Datum
 column_value fields values n =
     unwrap_or (option_and_then (slice_get values) (place_of fields n)) null
@@ -108,7 +108,7 @@ record_value fields values (function f) = null
 abbrev pub where_truth : List Field → Option Predicate → List Datum → Truth
 where_truth fields p values = option_map_or (truth (record_value fields values)) p True
 
--- Whether a record is kept: where the predicate is True, not where it is False or Unknown.
+-- Whether a record is kept: if the predicate is True, not if it is False or Unknown.
 abbrev pub is_kept : List Field → Query → List Datum → Bool
 is_kept fields q values = same_truth (where_truth fields q.where_condition values) True
 
@@ -118,7 +118,7 @@ kept_records fields q records = filter (is_kept fields q) records
 
 -- ---- FILTER (ISO/IEC 9075-2, <filter clause>)
 
--- Whether a record passes a FILTER of this predicate: where it is True, not where it is False or
+-- Whether a record passes a FILTER of this predicate: if it is True, not if it is False or
 -- Unknown.
 abbrev pub passes : List Field → Predicate → List Datum → Bool
 passes fields p values = same_truth (truth (record_value fields values) p) True

@@ -1,6 +1,7 @@
--- What is wrong with a query under a schema: its faults, in the order in which they are told
+-- What is wrong with a query under a schema: its faults, in the order in which they are reported
 -- (ISO/IEC 9075-2, <query specification>). A query is planned if it has none; of several the first
--- is told. It has none exactly if each of its clauses is typed (`typed_law` of query_typecheck).
+-- is reported. It has none exactly if each of its clauses is typed (`typed_law` of
+-- query_typecheck).
 use Rattle.std.specs.List.{enumerate_from, flat_map, list_any}
 use Rattle.std.specs.Option.{option_map_or}
 use Rattle.std.specs.Prelude.{ℕ, nat_le, Bool, true, false, not, ◌&&◌, Option, Some, None, List, [], ◌∷◌, ◌++◌, map, length, take, is_some, if◌then◌else◌}
@@ -92,7 +93,7 @@ abbrev pub predicate_faults : (Expression → List QueryFault) → List Field
 predicate_faults of_expression fields p =
     flat_map (atom_faults of_expression fields) (operands_of_atoms p)
 
--- The faults of the predicate of a clause or a FILTER, where it is written.
+-- The faults of the predicate of a clause or a FILTER, if it is written.
 abbrev pub clause_faults : (Expression → List QueryFault) → List Field
     → Option Predicate → List QueryFault
 clause_faults of_expression fields None = []
@@ -108,7 +109,7 @@ record_faults fields (grouping ns) = FunctionNotAllowed ∷ []
 record_faults fields (function f) = FunctionNotAllowed ∷ []
 
 -- The faults of a set function: those of its argument, and then those of its FILTER; or that it is
--- AVG, where the test says that AVG may not stand.
+-- AVG, if the test says that AVG may not stand.
 abbrev pub function_faults : Bool → List Field → SetFunction → List QueryFault
 function_faults may_average fields f =
     if is_average (aggregate_of f) && not may_average then FunctionNotAllowed ∷ []
@@ -130,10 +131,10 @@ header_faults headers =
     flat_map (λ p. unless (not (list_any (bytes_eq p.1) (take p.0 headers))) (RepeatedHeader p.1))
     (enumerate_from 0 headers)
 
--- What is wrong with a query under a schema, in the order in which it is told: in WHERE; in GROUP
--- BY, where names are columns; that it stands for more than 256 sets; in the items of SELECT, where
--- alone AVG may stand; in their headers; in HAVING; in ORDER BY, where a key that is an alias
--- stands for its item; and that there are more than 64 different set functions.
+-- What is wrong with a query under a schema, in the order in which it is reported: in WHERE; in
+-- GROUP BY, where names are columns; that it stands for more than 256 sets; in the items of
+-- SELECT, where alone AVG may stand; in their headers; in HAVING; in ORDER BY, where a key that is
+-- an alias stands for its item; and that there are more than 64 different set functions.
 unfoldable pub query_faults : List Field → Query → List QueryFault
 query_faults fields q =
     let groups = grouping_names q in

@@ -82,7 +82,7 @@ pub data IsDirection : List Token → Bool → List Token → Type 0 where
   ascending : {r : List Token} → IsDirection (tokens.Word w.Asc ∷ r) false r
   descending : {r : List Token} → IsDirection (tokens.Word w.Desc ∷ r) true r
 
--- [ NULLS FIRST | NULLS LAST ], and whether NULL is first; where it is not written, NULL is first
+-- [ NULLS FIRST | NULLS LAST ], and whether NULL is first; if it is not written, NULL is first
 -- exactly under DESC
 pub data IsNullOrdering (descending : Bool) : List Token → Bool → List Token → Type 0 where
   none : {r : List Token} → IsNullOrdering descending r descending r

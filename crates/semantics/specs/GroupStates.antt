@@ -9,7 +9,7 @@ use Rattle.semantics.specs.Values.{Datum, value_order}
 use Rattle.semantics.specs.declared.function.ColumnFunction.{ColumnFunction}
 use Rattle.semantics.specs.declared.function.ColumnFunction.TheVariants as function
 
--- The state of a set function over the members of a group: nothing where it is their number, a
+-- The state of a set function over the members of a group: nothing if it is their number, a
 -- count, a sum and how many numbers were added, the least or the greatest value, or the different
 -- values.
 pub data FunctionState : Type 0 where

@@ -14,7 +14,7 @@ use Rattle.semantics.specs.Values.{Datum, null, value_order}
 abbrev pub Record : Type 0
 Record = List Datum
 
--- The value in the column at a place; where there is no such column it counts as NULL.
+-- The value in the column at a place; if there is no such column it counts as NULL.
 abbrev pub value_at : ℕ → Record → Datum
 value_at place row = slice_index_or row place null
 

@@ -19,8 +19,8 @@ use Rattle.semantics.specs.Limits.{input_limit}
 
 -- ---- to a part
 
--- What a fault leaves of the output that a part goes to. Nothing was written where a read failed,
--- memory or a thread was refused, or more lines are refused than the limit. Where a write failed,
+-- What a fault leaves of the output that a part goes to. Nothing was written if a read failed,
+-- memory or a thread was refused, or more lines are refused than the limit. If a write failed,
 -- not more lines are refused than the limit, and a beginning of the part was written.
 abbrev pub LeavesPart : RunFault → Option ℕ → List Field → Query → Option (List ℕ)
     → (out_old out_new : Option (List ℕ)) → Type 0

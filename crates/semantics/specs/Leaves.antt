@@ -1,9 +1,9 @@
 -- The leaves of the grammar, which hold no expression and no predicate, with one case for each
--- production (ISO/IEC 9075-2, <set function specification>, <literal>). `P ts x rest` says that the
--- tokens in front of `ts` derive `x`, and that `rest` stands behind them. The production is written
--- above its relation: words in capitals are keywords, words in small letters are other productions,
--- `{ x }` is none or more, `[ x ]` is none or one, `|` parts choices. All productions on one page
--- are in docs/LANGUAGE.md.
+-- production (ISO/IEC 9075-2, <set function specification>, <literal>). `P ts x rest` says that
+-- the tokens at the beginning of `ts` derive `x`, and that `rest` follows them. The production is
+-- written above its relation: words in capitals are keywords, words in small letters are other
+-- productions, `{ x }` is none or more, `[ x ]` is none or one, `|` parts choices. All productions
+-- on one page are in docs/LANGUAGE.md.
 use Rattle.std.specs.Prelude.{ℕ, ℤ, Bool, true, false, List, [], ◌∷◌}
 use Rattle.semantics.specs.declared.aggregate.Aggregate.{Aggregate}
 use Rattle.semantics.specs.declared.comparison.Op.{Op}

@@ -51,7 +51,7 @@ abbrev pub aggregate_of : SetFunction → Aggregate
 aggregate_of (over_all a) = a
 aggregate_of (over_filtered a p) = a
 
--- The predicate of its FILTER, where it has one.
+-- The predicate of its FILTER, if it has one.
 abbrev pub filter_of : SetFunction → Option Predicate
 filter_of (over_all a) = None
 filter_of (over_filtered a p) = Some p
@@ -69,12 +69,12 @@ column_function fields (aggregate.Min x) = option_map at.Min (place_of fields x)
 column_function fields (aggregate.Max x) = option_map at.Max (place_of fields x)
 column_function fields (aggregate.Avg x) = option_map at.Avg (place_of fields x)
 
--- A set function with the place of its column, and the predicate of its FILTER, where it has one.
+-- A set function with the place of its column, and the predicate of its FILTER, if it has one.
 pub record PlannedFunction : Type 0 where
   pub function : ColumnFunction
   pub filter : Option Predicate
 
--- A set function, where the schema has its column.
+-- A set function, if the schema has its column.
 abbrev pub planned_function : List Field → SetFunction → Option PlannedFunction
 planned_function fields f =
     option_map (λ g. record { function = g; filter = filter_of f })

@@ -61,7 +61,7 @@ row_order fields t x y =
 
 -- ---- a list in order
 
--- The list with x in it, in front of the first element that is not before x.
+-- The list with x in it, before the first element that is not before x.
 abbrev pub inserted_by : {X : Type 0} → (X → X → Ordering) → X → List X → List X
 inserted_by order x [] = x ∷ []
 inserted_by order x (y ∷ ys) = if is_gt (order x y) then y ∷ inserted_by order x ys else x ∷ y ∷ ys

@@ -25,7 +25,7 @@ use Rattle.semantics.specs.declared.line_fault.LineFault.{LineFault}
 -- ---- values as JSON texts (RFC 8259), each on a line of its own
 
 -- Truth values and NULL are the literal names of JSON (section 3). A whole number is its digits,
--- with a minus in front of a number below 0 (section 6). A text is a string with the shortest
+-- with a minus before a number below 0 (section 6). A text is a string with the shortest
 -- escapes (section 7).
 abbrev pub value_text : Datum → List ℕ
 value_text (boolean true) = codes "true"
@@ -38,7 +38,7 @@ value_text null = codes "null"
 abbrev pub line_of : Datum → List ℕ
 line_of d = value_text d ++ line_feed ∷ []
 
--- The lines of values, one behind the other.
+-- The lines of values, one after the other.
 abbrev pub text_of : List Datum → List ℕ
 text_of values = flat_map line_of values
 
@@ -60,7 +60,7 @@ state_values (collected ds) = whole (pos (length ds)) ∷ ds
 abbrev pub group_values : EntryForm → List Datum
 group_values g = g.key ++ whole (pos g.members) ∷ flat_map state_values g.states
 
--- Groups, one behind the other.
+-- Groups, one after the other.
 abbrev pub groups_values : List EntryForm → List Datum
 groups_values gs = flat_map group_values gs
 
@@ -120,7 +120,7 @@ refused_line_values fields line = number line.0 ∷ text (fault_text fields line
 abbrev pub refused_values : List Field → List (ℕ × LineFault) → List Datum
 refused_values fields refused = flat_map (refused_line_values fields) refused
 
--- What stands before the groups of a part: behind its first lines the number of all lines, the
+-- What stands before the groups of a part: after its first lines the number of all lines, the
 -- number of the refused ones and these, and the number of the groups.
 abbrev pub front_of : (columns query : List ℕ) → List Field → (lines : ℕ) → List (ℕ × LineFault)
     → (groups : ℕ) → List Datum
@@ -162,14 +162,14 @@ with_checksum bytes = bytes ++ line_of (checksum bytes)
 abbrev pub part_text : List Field → Query → List ℕ → List ℕ
 part_text fields q input = with_checksum (text_of (part_values fields q input))
 
--- ---- inputs, one behind the other
+-- ---- inputs, one after the other
 
--- An input with a line feed behind it where it is not empty and lacks one.
+-- An input with a line feed after it if it is not empty and lacks one.
 abbrev pub newline_terminated : List ℕ → List ℕ
 newline_terminated [] = []
 newline_terminated (byte ∷ []) = if byte == line_feed then byte ∷ [] else byte ∷ line_feed ∷ []
 newline_terminated (byte ∷ next ∷ bytes) = byte ∷ newline_terminated (next ∷ bytes)
 
--- Some inputs, one behind the other, so that each begins on a line of its own.
+-- Some inputs, one after the other, so that each begins on a line of its own.
 abbrev pub concatenated : List (List ℕ) → List ℕ
 concatenated inputs = flat_map newline_terminated inputs

@@ -8,7 +8,7 @@ use Rattle.semantics.specs.declared.token.Token.TheVariants as tokens
 use Rattle.semantics.specs.declared.token.Word.TheVariants as w
 use Rattle.semantics.specs.declared.token.Sign.TheVariants as s
 
--- These tokens begin a query within these limits: with some tokens behind them they derive one.
+-- These tokens begin a query within these limits: with some tokens after them they derive one.
 pub record BeginsWithin (limits : Limits) (front : List Token) : Type 0 where
   pub rest : List Token
   pub tree : Query

@@ -14,7 +14,7 @@ use Rattle.semantics.specs.declared.token.Sign.TheVariants as s
 
 -- ---- expressions
 
--- setfn, which is a set function, and behind it [ FILTER "(" WHERE pred ")" ], where IsInner is
+-- setfn, which is a set function, and after it [ FILTER "(" WHERE pred ")" ], where IsInner is
 -- what may stand in the brackets of FILTER
 pub data IsFunction (limits : Limits) (IsInner : Derivation Predicate) : List Token → SetFunction
     → List Token → Type 0 where

@@ -21,7 +21,7 @@ pub record Derives (text : List ℕ) (q : Query) : Type 0 where
   pub spelled : Spells text tokens starts
   pub derived : DerivesWithin language_limits tokens q
 
--- A text spells tokens of which some, in front, begin a query that does not keep the limits.
+-- A text spells tokens of which the first ones begin a query that does not keep the limits.
 pub record SpellsTooMuch (text : List ℕ) : Type 0 where
   pub tokens : List Token
   pub starts : List ℕ

@@ -106,6 +106,6 @@ Holds kind.Text (text s) = ⊤
 Holds kind.Bool (boolean b) = ⊤
 Holds k d = ⊥
 
--- A record fits a schema where it has one value for each column, and each column holds its value.
+-- A record fits a schema if it has one value for each column, and each column holds its value.
 abbrev pub Fits : List Field → List Datum → Type 0
 Fits fields values = AllZip (λ f d. Holds f.kind d) fields values

@@ -16,7 +16,7 @@ use Rattle.semantics.specs.Values.{Datum, whole, null}
 use Rattle.semantics.specs.declared.truth.Truth.TheVariants.{True}
 
 -- The value that a row of a grouping set shows for a column: the column's part of the key, and NULL
--- where the column is not in the set.
+-- if the column is not in the set.
 abbrev pub value_in : List ℕ → Key → ℕ → Datum
 value_in set key place =
     option_map_or (λ at. slice_index_or key at null) (position (λ column. column == place) set) null
@@ -41,7 +41,7 @@ abbrev pub binary_value : List Bool → ℕ
 binary_value [] = 0
 binary_value (digit ∷ higher) = (if digit then 1 else 0) + 2 * binary_value higher
 
--- The number whose binary digits are 0 where the column is in the grouping set and 1 where it is
+-- The number whose binary digits are 0 if the column is in the grouping set and 1 if it is
 -- not, the last column's digit lowest.
 abbrev pub grouping_number : List Field → List ℕ → List (List ℕ) → ℕ
 grouping_number fields set names = binary_value (reverse (map (is_rolled_up fields set) names))

@@ -30,7 +30,7 @@ report fields q input =
 abbrev pub refusals : List Field → List ℕ → List ℕ
 refusals fields input = flat_map (refused_line fields) (refused_lines fields input)
 
--- Not more than the limit, where there is one.
+-- Not more than the limit, if there is one.
 abbrev pub IsWithin : Option ℕ → ℕ → Type 0
 IsWithin limit count = IfSome limit (λ most. count ≤ most)
 
@@ -39,8 +39,8 @@ abbrev pub IsResourceFault : RunFault → Type 0
 IsResourceFault (TooManyRefused most) = ⊥
 IsResourceFault fault = ⊤
 
--- What a fault says, and what it leaves of the two outputs. Nothing was written where a read
--- failed, memory or a thread was refused, or more lines are refused than the limit. Where a write
+-- What a fault says, and what it leaves of the two outputs. Nothing was written if a read
+-- failed, memory or a thread was refused, or more lines are refused than the limit. If a write
 -- failed, not more lines are refused than the limit: a beginning of the report was written and
 -- nothing of the list, or the report and a beginning of the list. No part is written.
 abbrev pub Leaves :

@@ -30,17 +30,18 @@ use Rattle.semantics.specs.declared.words_fault.WordsFault.TheVariants as words_
 
 -- ---- statuses
 
--- Where the columns are refused.
+-- The status if the columns are refused.
 abbrev pub schema_status : SchemaFault → ℕ
 schema_status schema_faults.OutOfMemory = 4
 schema_status fault = 2
 
--- Where the query is refused.
+-- The status if the query is refused.
 abbrev pub query_status : QueryFault → ℕ
 query_status text_faults.OutOfMemory = 4
 query_status fault = 2
 
--- Where a run fails: by a read or a write, by memory or a thread, by too many refused lines.
+-- The status if a run fails: by a read or a write, by memory or a thread, or by too many refused
+-- lines.
 abbrev pub run_status : RunFault → ℕ
 run_status run_faults.Reading = 3
 run_status run_faults.WritingReport = 3
@@ -50,12 +51,12 @@ run_status run_faults.OutOfMemory = 4
 run_status run_faults.ThreadNotStarted = 4
 run_status (run_faults.TooManyRefused most) = 5
 
--- Where a join fails: by the parts, or as a run does.
+-- The status if a join fails: by the parts, or as a run does.
 abbrev pub join_status : JoinFault → ℕ
 join_status (join_faults.Parts fault) = 6
 join_status (join_faults.Run fault) = run_status fault
 
--- Where the program ends without what it was asked for.
+-- The status if the program ends without what it was asked for.
 abbrev pub status_of : Ending → ℕ
 status_of (ending.Words fault) = 2
 status_of (ending.Schema fault) = schema_status fault
@@ -64,7 +65,7 @@ status_of ending.NotOpened = 3
 status_of (ending.Run fault) = run_status fault
 status_of (ending.Join fault) = join_status fault
 
--- Where it is done: 1 where a report is written and lines are refused, and else 0.
+-- The status if it is done: 1 if a report is written and lines are refused, and otherwise 0.
 abbrev pub done_status : (partial : Bool) → Done → ℕ
 done_status true done = 0
 done_status false done = if done.refused == 0 then 0 else 1
@@ -76,8 +77,8 @@ last_status (Err ending) = status_of ending
 
 -- ---- texts
 
--- How the program ends that is asked for a text: it is written, with status 0; or memory ran out,
--- and nothing is written; or a write failed, and a beginning of it is written.
+-- How a program that is asked for a text ends: the text is written, with status 0; or memory ran
+-- out, and nothing is written; or a write failed, and a beginning of it is written.
 abbrev pub EndsByText : List ℕ → Result ℕ Ending → (out_old out_new : Option (List ℕ)) → Type 0
 EndsByText text (Ok status) out_old out_new = (status ≡ 0) × Appends out_old out_new text
 EndsByText text (Err (ending.Run run_faults.OutOfMemory)) out_old out_new = Keeps out_old out_new
@@ -89,8 +90,8 @@ EndsByText text (Err other) out_old out_new = ⊥
 abbrev pub AsksForText : ErrorKind → Type 0
 AsksForText kind = (kind ≡ kinds.DisplayHelp) ⊎ (kind ≡ kinds.DisplayVersion)
 
--- How the program ends where clap answers this in place of settings: by its text, where the words
--- ask for one; by want of memory, where that is the answer; and else since the words are refused.
+-- How the program ends if clap answers this in place of settings: by its text, if the words ask
+-- for one; for want of memory, if that is the answer; and otherwise because the words are refused.
 pub record EndsByClap (error : Error) (end : Result ℕ Ending) (out_old out_new : Option (List ℕ))
     : Type 0 where
   pub text : AsksForText (kind_of error) → (text : List ℕ) × EndsByText text end out_old out_new
@@ -99,7 +100,7 @@ pub record EndsByClap (error : Error) (end : Result ℕ Ending) (out_old out_new
   pub refused : ¬ AsksForText (kind_of error) → kind_of error ≢ kinds.OutOfMemory
       → (end ≡ Err (ending.Words (words_faults.Clap error))) × Keeps out_old out_new
 
--- How the program ends that has no settings.
+-- How a program that has no settings ends.
 abbrev pub EndsByWords : WordsFault → Result ℕ Ending → (out_old out_new : Option (List ℕ)) → Type 0
 EndsByWords (words_faults.Clap error) end out_old out_new = EndsByClap error end out_old out_new
 EndsByWords words_faults.Range end out_old out_new =
@@ -129,12 +130,12 @@ IsRefused columns query end = ⊥
 
 -- ---- a report or a part
 
--- The end that an answer is, where a fault is this ending.
+-- The end that an answer is, if a fault is this ending.
 abbrev pub end_of : {F : Type 0} → (F → Ending) → (partial : Bool) → Result Done F → Result ℕ Ending
 end_of to_ending partial (Ok done) = Ok (done_status partial done)
 end_of to_ending partial (Err fault) = Err (to_ending fault)
 
--- How the program ends that is asked for a report, or for a part in its place, of the lines that
+-- How a program that is asked for a report ends, or for a part in its place, of the lines that
 -- are given, or with --join of the lines whose parts are given: as the run, or as the join. Beside
 -- a part nothing goes to the second output.
 abbrev pub EndsByRun : (join partial : Bool) → Result ℕ Ending → Option ℕ → List Field → Query
@@ -154,7 +155,7 @@ EndsByRun true true end limit fields q given out_old out_new err_old err_new =
 
 -- ---- the program
 
--- How the program ends whose columns and query are good. Where an explanation is asked for, by
+-- How a program whose columns and query are good ends. If an explanation is asked for, by
 -- that text, and no file is opened. Else the file is opened, once: it cannot be, and nothing is
 -- written; or what is asked for is done over what its reader gives.
 abbrev pub EndsByQuery : {F R : Type 0} → (opens : Mut F (Bor (List ℕ) × Unit {0}) (Option R))
@@ -172,7 +173,7 @@ EndsByQuery {F} {R} opens before after remaining file false join partial limit f
     ⊎ ((reader : R) × CalledAt opens before file (Some reader) after
     × EndsByRun join partial end limit fields q (remaining reader) out_old out_new err_old err_new)
 
--- How the program ends that has settings: the columns or the query are refused, and no file is
+-- How a program that has settings ends: the columns or the query are refused, and no file is
 -- opened and nothing written; or they are good.
 abbrev pub EndsBySettings : {F R : Type 0} → (opens : Mut F (Bor (List ℕ) × Unit {0}) (Option R))
     → (before after : F)
@@ -186,7 +187,7 @@ EndsBySettings opens before after remaining columns query file explain join part
     × EndsByQuery opens before after remaining file explain join partial limit good.fields good.form
     end out_old out_new err_old err_new)
 
--- What the second output gets at the end: nothing more where it is done, and else a text, behind
+-- What the second output gets at the end: nothing more if it is done, and otherwise a text, after
 -- what was written there before.
 abbrev pub IsTold : Result ℕ Ending → (old new : Option (List ℕ)) → Type 0
 IsTold (Ok status) old new = Keeps old new

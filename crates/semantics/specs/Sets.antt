@@ -66,7 +66,7 @@ same_columns first second =
     list_all (λ c. list_any (λ p. p == c) second) first
     && list_all (λ c. list_any (λ p. p == c) first) second
 
--- The grouping sets of a query: its expanded list, and where GROUP BY DISTINCT is written, that
+-- The grouping sets of a query: its expanded list, and if GROUP BY DISTINCT is written, that
 -- list without each set that has the same columns as an earlier one.
 abbrev pub sets_of : List Field → Query → List (List ℕ)
 sets_of fields t =

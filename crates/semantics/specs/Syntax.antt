@@ -24,7 +24,7 @@ mutual
     expression : Expression → Operand
     literal : Literal → Operand
 
-  -- A predicate. The mark of a truth test, BETWEEN, IN and IS NULL is true where NOT is written in
+  -- A predicate. The mark of a truth test, BETWEEN, IN and IS NULL is true if NOT is written in
   -- it.
   pub data Predicate : Type 0 where
     or_of : Predicates → Predicate
@@ -55,7 +55,7 @@ mutual
     no_groups : GroupingElements
     group : GroupingElement → GroupingElements → GroupingElements
 
--- An item of SELECT: an expression, and the alias where there is one.
+-- An item of SELECT: an expression, and the alias if there is one.
 pub record SelectItem : Type 0 where
   pub expression : Expression
   pub alias : Option (List ℕ)

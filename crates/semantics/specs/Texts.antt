@@ -13,7 +13,7 @@ use Rattle.semantics.specs.declared.line_fault.LineFault.TheVariants.{TooLong, N
 
 -- ---- the report
 
--- A text that begins with a backslash has one more in front, so that none is the sign of NULL.
+-- A text that begins with a backslash has one more before it, so that none is the sign of NULL.
 abbrev pub escaped_text : List ℕ → List ℕ
 escaped_text [] = []
 escaped_text (b ∷ bs) = if b == 92 then 92 ∷ b ∷ bs else b ∷ bs
@@ -32,7 +32,7 @@ cell_field (plain d) = value_field d
 cell_field (ratio sum count) = signed_decimal sum ++ codes "/" ++ decimal count
 
 -- The bytes of a report: the header of each item, and then each row, as CSV with commas, line
--- feeds, and quotes where they are needed.
+-- feeds, and quotes if they are needed.
 abbrev pub report_bytes : List SelectItem → List (List CellValue) → List ℕ
 report_bytes items rows =
     flat_map (row_text default_writer) (map header_text items ∷ map (map cell_field) rows)

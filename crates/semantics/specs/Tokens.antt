@@ -38,7 +38,7 @@ abbrev pub is_digits : List ℕ → Bool
 is_digits [] = false
 is_digits (b ∷ bs) = is_ascii_digit b && list_all is_ascii_digit bs
 
--- No longer sign stands where this one stands before `rest`.
+-- No longer sign stands in the place of this one before `rest`.
 abbrev pub IsLongestSign : Sign → List ℕ → Type 0
 IsLongestSign sign rest =
     (other : Sign) (behind : List ℕ) → sign_text sign ++ rest ≡ sign_text other ++ behind
@@ -80,13 +80,13 @@ pub data SpellsFrom : ℕ → List ℕ → List Token → List ℕ → Type 0 wh
 abbrev pub Spells : List ℕ → List Token → List ℕ → Type 0
 Spells bs ks starts = SpellsFrom 0 bs ks starts
 
--- Neither white space nor a token stands in front of the text, and it is not at its end.
+-- Neither white space nor a token stands at the beginning of the text, and it is not at its end.
 pub record BeginsNoToken (bs : List ℕ) : Type 0 where
   pub no_end : bs ≢ []
   pub no_space : begins_with is_space bs ≡ false
   pub no_token : (front rest : List ℕ) (k : Token) → bs ≡ front ++ rest → IsToken front k rest → ⊥
 
--- From byte `n` on, behind white space and tokens, no token begins at byte `at`.
+-- From byte `n` on, after white space and tokens, no token begins at byte `at`.
 pub data StopsFrom : ℕ → List ℕ → ℕ → Type 0 where
   here : {n : ℕ} {bs : List ℕ} → BeginsNoToken bs → StopsFrom n bs n
   space : {n b at : ℕ} {bs : List ℕ} → is_space b ≡ true → StopsFrom (n + 1) bs at

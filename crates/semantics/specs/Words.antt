@@ -53,6 +53,6 @@ quoted_text quote text = quote ∷ (with_quotes_doubled quote text ++ quote ∷ 
 abbrev pub is_plain_name : List ℕ → Bool
 is_plain_name name = is_word name && is_none (reserved_word name)
 
--- How a name is written in canonical texts: plain where it can be, else in double quotes.
+-- How a name is written in canonical texts: plain if it can be, else in double quotes.
 abbrev pub name_text : List ℕ → List ℕ
 name_text name = if is_plain_name name then name else quoted_text 34 name

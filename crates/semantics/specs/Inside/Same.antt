@@ -1,5 +1,5 @@
 -- Whether two set functions are the same. Nobody has to read this file: `same_function_law` and
--- `same_predicate_law` say of it that they are where they are equal.
+-- `same_predicate_law` say of it that they are if they are equal.
 use lib.Pointwise.{pointwise}
 use mathlib.Core.Bool.{beq}
 use Rattle.std.specs.Prelude.{ℕ, Bool, true, false, ◌&&◌, Option, Some, None}
@@ -58,14 +58,14 @@ abbrev mutual
       aggregate.eq-value.it a b && same_predicate p q
   same_set_function f g = false
 
--- Filters are the same where their trees are equal; a function without one has another filter than
+-- Filters are the same if their trees are equal; a function without one has another filter than
 -- each function with one.
 abbrev pub same_filter : Option Predicate → Option Predicate → Bool
 same_filter None None = true
 same_filter (Some p) (Some q) = same_predicate p q
 same_filter o r = false
 
--- Two set functions are the same where the function, DISTINCT, the column and the filter are.
+-- Two set functions are the same if the function, DISTINCT, the column and the filter are.
 abbrev pub same_planned : PlannedFunction → PlannedFunction → Bool
 same_planned f g =
     column_function.eq-value.it f.function g.function && same_filter f.filter g.filter
