@@ -11,7 +11,7 @@ use Rattle.std.specs.List.{AllByRecursion, IsDistinct, list_any}
 use Rattle.std.specs.List.Sorted.{IsStrictlySortedBy}
 use Rattle.std.specs.Ordering.{eq_by_cmp, is_eq, is_gt, is_lt, ordering_reverse}
 use lib.Dec.{T}
-use Rattle.semantics.specs.Order.{inserted_by, sorted_by}
+use Rattle.semantics.specs.Lists.{inserted_by, sorted_by}
 use Rattle.group_tables.specs.Entries.{IsAscending}
 
 -- ---- how two things stand to each other

@@ -8,7 +8,7 @@ use Rattle.std.specs.List.Sorted.{IsStrictlySortedBy}
 use Rattle.semantics.specs.Aggregates.{AggregateFunction}
 use Rattle.semantics.specs.Columns.{Field}
 use Rattle.semantics.specs.Groups.{Key, Record, key_order, keys, members, same_key}
-use Rattle.semantics.specs.Order.{sorted_by}
+use Rattle.semantics.specs.Lists.{sorted_by}
 use Rattle.query_resolve.specs.declared.function.FilteredFunction.{FilteredFunction}
 use Rattle.semantics.specs.GroupStates.{entries_over, entry_over, EntryForm}
 use Rattle.group_tables.specs.Functions.{aggregates_of}

@@ -9,7 +9,7 @@ use Rattle.std.proofs.lemmas.List.Folds.{list_any-append}
 use Rattle.std.specs.List.{list_any}
 use Rattle.std.specs.FinMap as fin
 use Rattle.semantics.specs.Values.{value_order}
-use Rattle.semantics.specs.Names.{distinct}
+use Rattle.semantics.specs.Lists.{distinct}
 use Rattle.semantics.specs.declared.function.ColumnFunction.{ColumnFunction}
 use Rattle.semantics.specs.declared.function.ColumnFunction.TheVariants as function
 use Rattle.query_resolve.specs.declared.function.FilteredFunction.{FilteredFunction}

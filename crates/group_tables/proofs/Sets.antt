@@ -10,7 +10,7 @@ use Rattle.std.specs.FinSet as set
 use Rattle.semantics.specs.Values.{Datum, whole, text, boolean, null, value_order}
 use Rattle.values.specs.Datum.{data_of, datum_of}
 use Rattle.values.specs.declared.value.Value.{Value}
-use Rattle.semantics.specs.Names.{distinct}
+use Rattle.semantics.specs.Lists.{distinct}
 use Rattle.semantics.specs.Aggregates.{is_non_null, non_null, same_value}
 use Rattle.group_tables.specs.Values.{Values, set_of}
 use Rattle.group_tables.specs.Inside.Values.{values_in}

@@ -11,7 +11,7 @@ use Rattle.std.specs.List.{AllByRecursion}
 use Rattle.group_tables.specs.Bags.{SameBag}
 use Rattle.group_tables.proofs.Bags.{bag-heads, bag-rests, length-bag}
 use Rattle.group_tables.specs.Ascending.{NoneBefore, Ascends}
-use Rattle.semantics.specs.Order.{inserted_by, sorted_by}
+use Rattle.semantics.specs.Lists.{inserted_by, sorted_by}
 
 -- ---- sums
 

@@ -9,7 +9,8 @@ use Rattle.semantics.specs.Values.{Datum, whole, is_null, value_order}
 use Rattle.semantics.specs.declared.kind.Kind.{Kind}
 use Rattle.semantics.specs.GroupStates.{EntryForm, FunctionState, rows, counted, summed, extreme, collected}
 use Rattle.part_lines.specs.LineValues.{line_value}
-use Rattle.semantics.specs.Parts.{value_text, count_values, group_values, groups_values, state_values}
+use Rattle.semantics.specs.Parts.{value_text, group_values, groups_values, state_values}
+use Rattle.part_lines.specs.Inside.LineValues.{count_values}
 use Rattle.values.specs.Results.{◌>>=◌}
 use Rattle.part_lines.specs.Faults.{out_of_order, out_of_range, unexpected_value}
 use Rattle.part_lines.specs.declared.shape.StateKind.{StateKind}

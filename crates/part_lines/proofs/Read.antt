@@ -16,7 +16,8 @@ use Rattle.semantics.specs.declared.kind.Kind.TheVariants as type
 use Rattle.semantics.specs.GroupStates.{EntryForm, FunctionState, rows, counted, summed, extreme, collected}
 use Rattle.part_lines.specs.LineValues.{line_value}
 use Rattle.part_lines.specs.Texts.{is_storable}
-use Rattle.semantics.specs.Parts.{value_text, count_values, group_values, state_values}
+use Rattle.semantics.specs.Parts.{value_text, group_values, state_values}
+use Rattle.part_lines.specs.Inside.LineValues.{count_values}
 use Rattle.values.specs.Results.{◌>>=◌}
 use Rattle.part_lines.specs.Faults.{Fault, FaultKind, out_of_order, out_of_range, unexpected_value}
 use Rattle.part_lines.specs.declared.shape.StateKind.{StateKind}

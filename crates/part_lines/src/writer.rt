@@ -4,7 +4,8 @@ ghost use Rattle.std.specs.Prelude.{◌≡◌, [], ◌∷◌, ◌++◌, ℕ, OnE
 ghost use Rattle.semantics.specs.Lines.{line_feed};
 ghost use Rattle.semantics.specs.Values as semantics;
 ghost use Rattle.values.specs.Datum.{datum_of, data_of};
-ghost use Rattle.semantics.specs.Parts.{line_of, text_of, count_values, group_values, groups_values, state_values};
+ghost use Rattle.semantics.specs.Parts.{line_of, text_of, group_values, groups_values, state_values};
+ghost use Rattle.part_lines.specs.Inside.LineValues.{count_values};
 ghost use Rattle.values.specs.GroupStates.{entries_of, entry_of, state_of};
 
 use crate::strings::{has_no_escape, json_string};

@@ -10,8 +10,8 @@ use Rattle.semantics.specs.Aggregates.{AggregateFunction, column_numbers, column
 use Rattle.semantics.specs.Columns.{Field}
 use Rattle.semantics.specs.GroupStates.{EntryForm, FunctionState, entries_over, entry_over, function_state, state_by, state_over, different_values}
 use Rattle.semantics.specs.Groups.{Key, Record, key_order, keys, members, project, same_key, value_at}
-use Rattle.semantics.specs.Names.{distinct}
-use Rattle.semantics.specs.Order.{sorted_by}
+use Rattle.semantics.specs.Lists.{distinct}
+use Rattle.semantics.specs.Lists.{sorted_by}
 use Rattle.semantics.specs.Parts.{group_values, groups_values, state_values}
 use Rattle.semantics.specs.Records.{Fits, Holds}
 use Rattle.semantics.specs.Values.{Datum, boolean, whole, text, null, value_order}

@@ -4,8 +4,8 @@ use Rattle.std.proofs.lemmas.List.Sums.{count_by-le-length, length-filter}
 use Rattle.std.specs.List.{AllByRecursion, filter}
 use Rattle.std.specs.Ordering.{is_gt}
 use Rattle.std.specs.declared.cmp.Ordering.{Ordering}
-use Rattle.semantics.specs.Names.{distinct}
-use Rattle.semantics.specs.Order.{sorted_by, inserted_by}
+use Rattle.semantics.specs.Lists.{distinct}
+use Rattle.semantics.specs.Lists.{sorted_by, inserted_by}
 
 -- ---- what holds of each thing
 

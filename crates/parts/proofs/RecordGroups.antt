@@ -13,7 +13,7 @@ use Rattle.semantics.specs.Columns.{Field}
 use Rattle.semantics.specs.ResultRows.{aggregate_functions, group_summary}
 use Rattle.semantics.specs.GroupStates.{entries_over, entry_over, function_state}
 use Rattle.semantics.specs.Groups.{Key, Record, key_order, keys, members, project, same_key}
-use Rattle.semantics.specs.Order.{sorted_by}
+use Rattle.semantics.specs.Lists.{sorted_by}
 use Rattle.semantics.specs.Records.{Fits}
 use Rattle.semantics.specs.Sets.{grouping_places}
 use Rattle.semantics.specs.Syntax.{Query}

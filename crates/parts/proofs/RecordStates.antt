@@ -13,7 +13,7 @@ use Rattle.semantics.specs.Columns.{Field}
 use Rattle.semantics.specs.ResultRows.{aggregate_functions}
 use Rattle.semantics.specs.GroupStates.{different_values, function_state, state_by, state_over}
 use Rattle.semantics.specs.Groups.{Record, keys, project, same_key, value_at}
-use Rattle.semantics.specs.Names.{distinct}
+use Rattle.semantics.specs.Lists.{distinct}
 use Rattle.semantics.specs.Records.{Fits, Holds}
 use Rattle.semantics.specs.Syntax.{Query}
 use Rattle.semantics.specs.Values.{Datum, boolean, whole, text, null, value_order}

@@ -11,7 +11,7 @@ use Rattle.semantics.specs.Aggregates.{AggregateFunction}
 use Rattle.semantics.specs.Columns.{Field}
 use Rattle.semantics.specs.ResultRows.{aggregate_functions}
 use Rattle.semantics.specs.Groups.{Key, Record, key_order, keys, members, project, same_key, value_at}
-use Rattle.semantics.specs.Order.{sorted_by}
+use Rattle.semantics.specs.Lists.{sorted_by}
 use Rattle.semantics.specs.Sets.{grouping_places}
 use Rattle.semantics.specs.Syntax.{Query}
 use Rattle.semantics.specs.declared.function.ColumnFunction.{ColumnFunction}

@@ -4,7 +4,7 @@ use Rattle.std.specs.Prelude.{filter}
 use Rattle.std.specs.List.{list_any}
 use Rattle.std.proofs.lemmas.Bool.Decides.{nat_tests}
 use Rattle.std.proofs.lemmas.List.{append-nil, take_more}
-use Rattle.semantics.specs.Names.{distinct}
+use Rattle.semantics.specs.Lists.{distinct}
 
 -- A filter of a list with one element more.
 filter_push : {A : Type 0} (k : A → Bool) (xs : List A) (z : A) → filter k (xs ++ z ∷ []) ≡ filter k xs ++ cond (k z) (z ∷ []) []

@@ -6,7 +6,7 @@ use Rattle.std.proofs.lemmas.List.Elements.{filter_passes}
 use Rattle.std.proofs.lemmas.List.Kept.{AllPairs-cons, AllPairs-filter}
 use Rattle.semantics.specs.Columns.{Field}
 use Rattle.semantics.specs.Syntax.{Query}
-use Rattle.semantics.specs.Names.{distinct}
+use Rattle.semantics.specs.Lists.{distinct}
 use Rattle.query_resolve.specs.Laws.{AreDistinct, HaveSameColumns, KeepsFirst}
 use Rattle.semantics.specs.Sets.{expanded_sets, same_columns, sets_of}
 use Rattle.query_resolve.proofs.Distinct.{any_filter, same_place}

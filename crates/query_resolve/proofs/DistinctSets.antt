@@ -8,7 +8,8 @@ use Rattle.std.proofs.lemmas.List.{map-append, take_more}
 use Rattle.std.proofs.lemmas.Slice.Eq.{bytes_eq-Decides}
 use Rattle.semantics.specs.Columns.{Field}
 use Rattle.semantics.specs.Syntax.{Query}
-use Rattle.semantics.specs.Names.{distinct, places_of}
+use Rattle.semantics.specs.Names.{places_of}
+use Rattle.semantics.specs.Lists.{distinct}
 use Rattle.query_resolve.specs.Resolution.{contents}
 use Rattle.semantics.specs.Sets.{expansion, expanded_sets, grouping_places, ordered_set, same_columns, sets_of}
 use Rattle.query_resolve.proofs.Distinct.{any_distinct, distinct_push, same_place}

@@ -8,7 +8,8 @@ use Rattle.semantics.specs.Columns.{Field}
 use Rattle.semantics.specs.ResultRows.{aggregate_function, aggregate_functions}
 use Rattle.semantics.specs.Groups.{Key, Record}
 use Rattle.semantics.specs.Inside.Same.{same_planned}
-use Rattle.semantics.specs.Names.{PlannedFunction, distinct, planned_function}
+use Rattle.semantics.specs.Names.{PlannedFunction, planned_function}
+use Rattle.semantics.specs.Lists.{distinct}
 use Rattle.semantics.specs.Rows.{expression_value}
 use Rattle.semantics.specs.SetFunctions.{functions_of, set_functions}
 use Rattle.semantics.specs.Syntax.{SetFunction, Query, function}

@@ -6,7 +6,8 @@ use Rattle.std.specs.Option.{option_and_then}
 use Rattle.semantics.specs.Columns.{Field}
 use Rattle.semantics.specs.Syntax.{Predicate, Query, function}
 use Rattle.query_resolve.specs.declared.function.FilteredFunction.{FilteredFunction}
-use Rattle.semantics.specs.Names.{distinct, PlannedFunction}
+use Rattle.semantics.specs.Names.{PlannedFunction}
+use Rattle.semantics.specs.Lists.{distinct}
 use Rattle.semantics.specs.Inside.Same.{same_predicate}
 use Rattle.semantics.specs.SetFunctions.{functions_of}
 

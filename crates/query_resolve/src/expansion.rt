@@ -3,7 +3,8 @@
 ghost use Rattle.std.specs.Prelude.{◌≡◌, map, if◌then◌else◌, IfOk};
 ghost use Rattle.values.specs.Schema.{fields_of};
 ghost use Rattle.query_ast.specs.Syntax.{element_form, units_form};
-ghost use Rattle.semantics.specs.Names.{distinct, places_of};
+ghost use Rattle.semantics.specs.Names.{places_of};
+ghost use Rattle.semantics.specs.Lists.{distinct};
 ghost use Rattle.semantics.specs.Sets.{group_sets, ordered_set, same_columns};
 ghost use Rattle.query_resolve.specs.Resolution.{contents, ordered_expansion};
 

@@ -4,7 +4,8 @@ ghost use Rattle.std.specs.Prelude.{◌≡◌, ◌++◌, ◌==◌, map, IfOk, On
 ghost use Rattle.std.specs.List.{flat_map};
 ghost use Rattle.values.specs.Schema.{fields_of};
 ghost use Rattle.query_ast.specs.Syntax.{element_form, units_form};
-ghost use Rattle.semantics.specs.Names.{distinct, group_names, places_of};
+ghost use Rattle.semantics.specs.Names.{group_names, places_of};
+ghost use Rattle.semantics.specs.Lists.{distinct};
 
 use crate::columns::place_of;
 use query_ast::{GroupingElement, Text};

@@ -4,7 +4,8 @@
 ghost use Rattle.std.specs.Prelude.{◌≡◌, ℕ, Bool, List, true, Decides};
 ghost use Rattle.semantics.specs.Columns.{Field};
 ghost use Rattle.semantics.specs.Syntax.{SetFunction, Query, Predicate, function};
-ghost use Rattle.semantics.specs.Names.{distinct, PlannedFunction};
+ghost use Rattle.semantics.specs.Names.{PlannedFunction};
+ghost use Rattle.semantics.specs.Lists.{distinct};
 ghost use Rattle.semantics.specs.Sets.{cross_product, cube_sets, expanded_sets, rollup_sets, sets_of};
 ghost use Rattle.semantics.specs.Inside.Same.{same_planned, same_predicate};
 ghost use Rattle.query_resolve.specs.Laws.{AreDistinct, HaveSameColumns, IsCrossProduct, IsCube, IsRollup};

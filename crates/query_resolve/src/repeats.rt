@@ -3,7 +3,7 @@
 ghost use Rattle.std.specs.Prelude.{◌≡◌, if◌then◌else◌, IfOk};
 ghost use Rattle.std.specs.List.{list_any};
 ghost use Rattle.std.specs.Str.{bytes_eq};
-ghost use Rattle.semantics.specs.Names.{distinct};
+ghost use Rattle.semantics.specs.Lists.{distinct};
 ghost use Rattle.query_resolve.specs.Resolution.{contents};
 
 use std::alloc::{AllocError, Global};

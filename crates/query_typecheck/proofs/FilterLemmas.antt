@@ -12,7 +12,8 @@ use Rattle.semantics.specs.Syntax.{Expression, SetFunction, Operand, Predicate, 
 use Rattle.semantics.specs.declared.function.ColumnFunction.{ColumnFunction}
 use Rattle.query_typecheck.specs.declared.scope.Clause.{Clause}
 use Rattle.query_typecheck.specs.declared.scope.Clause.TheVariants as clause
-use Rattle.semantics.specs.Names.{distinct, PlannedFunction, aggregate_of, column_function, filter_of, planned_function}
+use Rattle.semantics.specs.Names.{PlannedFunction, aggregate_of, column_function, filter_of, planned_function}
+use Rattle.semantics.specs.Lists.{distinct}
 use Rattle.semantics.specs.Sets.{grouping_places}
 use Rattle.semantics.specs.Inside.Same.{same_predicate, same_planned}
 use Rattle.query_resolve.specs.Functions.{different_filters, filters_of, indexed_function}

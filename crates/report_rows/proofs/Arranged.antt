@@ -10,7 +10,8 @@ use Rattle.semantics.specs.ResultRows.{ResultRow}
 use Rattle.group_tables.specs.GroupRows.{row_of}
 use Rattle.semantics.specs.Rows.{rows_having_true}
 use Rattle.report_rows.specs.Planned.{HasSetUnder}
-use Rattle.semantics.specs.Order.{sorted_rows, row_order, sorted_by}
+use Rattle.semantics.specs.Order.{sorted_rows, row_order}
+use Rattle.semantics.specs.Lists.{sorted_by}
 use Rattle.report_rows.proofs.Filtering.{fit-having_true}
 use Rattle.report_rows.proofs.Keeping.{within-having_true}
 use Rattle.report_rows.proofs.Maps.{all-of-map}

@@ -7,7 +7,7 @@ use Rattle.std.specs.List.{AllByRecursion, position_or_len}
 use Rattle.std.specs.Option.{option_map_or}
 use Rattle.std.proofs.lemmas.Bool.Decides.{nat_tests}
 use Rattle.semantics.specs.Values.{Datum, null, value_order}
-use Rattle.semantics.specs.Names.{distinct}
+use Rattle.semantics.specs.Lists.{distinct}
 use Rattle.semantics.specs.Groups.{Key}
 use Rattle.semantics.specs.Rows.{value_in}
 

@@ -24,7 +24,8 @@ use Rattle.group_tables.proofs.Order.{key_antisymmetric}
 use Rattle.semantics.specs.ResultRows.{ResultRow, set_of}
 use Rattle.group_tables.specs.GroupRows.{row_of}
 use Rattle.semantics.specs.Rows.{rows_having_true}
-use Rattle.semantics.specs.Order.{grouping_values, compare_by_key, compare_by_keys, row_order, sorted_by, sorted_rows}
+use Rattle.semantics.specs.Order.{grouping_values, compare_by_key, compare_by_keys, row_order, sorted_rows}
+use Rattle.semantics.specs.Lists.{sorted_by}
 use Rattle.group_tables.specs.Ascending.{NoneBefore, Ascends}
 use Rattle.report_rows.specs.Inside.SortEntries.{AreEnough, CodedForm, EntryForm, HasKeyOf, IsCodableRow, by_code, entry_at, under_coded}
 use Rattle.group_tables.specs.Fitting.{AreFitting}

@@ -6,7 +6,8 @@ ghost use Rattle.std.specs.List.Sorted.{IsPermutation, IsSortedBy};
 ghost use Rattle.std.specs.Ordering.{is_lt};
 ghost use Rattle.group_tables.specs.GroupRows.{row_of};
 ghost use Rattle.group_tables.specs.Fitting.{AreFitting};
-ghost use Rattle.semantics.specs.Order.{row_order, sorted_by};
+ghost use Rattle.semantics.specs.Order.{row_order};
+ghost use Rattle.semantics.specs.Lists.{sorted_by};
 ghost use Rattle.report_rows.specs.Parts.{AreMade, items_of};
 ghost use Rattle.report_rows.specs.Inside.SortEntries.{AreEntriesOf, AreEntriesOfParts, IsCodableRow, by_code, coded_form, entry_at, entry_form};
 
@@ -33,7 +34,8 @@ impl<'a, 'p, 'v> Operation for PutInOrder<'a, 'p, 'v> {
     ghost use Rattle.std.specs.Prelude.{◌≡◌, IfOk, map};
     ghost use Rattle.group_tables.specs.GroupRows.{row_of};
     ghost use Rattle.group_tables.specs.Fitting.{AreFitting};
-    ghost use Rattle.semantics.specs.Order.{row_order, sorted_by};
+    ghost use Rattle.semantics.specs.Order.{row_order};
+    ghost use Rattle.semantics.specs.Lists.{sorted_by};
 
     type Output = Result<Vec<&'a (usize, Group)>, AllocError>;
 

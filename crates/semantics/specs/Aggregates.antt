@@ -5,7 +5,7 @@ use Rattle.std.specs.Option.{option_map_or}
 use Rattle.std.specs.Ordering.{eq_by_cmp, is_lt, is_gt}
 use Rattle.std.specs.Prelude.{ℕ, ℤ, Bool, not, List, map, filter, filter_map, Option, Some, None, pos, ◌+ℤ◌, [], ◌∷◌, length, unwrap_or}
 use Rattle.semantics.specs.Groups.{Record, value_at}
-use Rattle.semantics.specs.Names.{distinct}
+use Rattle.semantics.specs.Lists.{distinct}
 use Rattle.semantics.specs.Values.{Datum, whole, is_null, null, value_order}
 use Rattle.semantics.specs.declared.function.ColumnFunction.{ColumnFunction}
 use Rattle.semantics.specs.declared.function.ColumnFunction.TheVariants as function

@@ -3,8 +3,8 @@
 use Rattle.std.specs.Prelude.{ℕ, ℤ, Bool, List, filter, length, map, Option, Some, None}
 use Rattle.semantics.specs.Aggregates.{AggregateFunction, column_numbers, column_values, maximum, minimum, same_value, total}
 use Rattle.semantics.specs.Groups.{Key, Record, key_order, keys, members}
-use Rattle.semantics.specs.Names.{distinct}
-use Rattle.semantics.specs.Order.{sorted_by}
+use Rattle.semantics.specs.Lists.{distinct}
+use Rattle.semantics.specs.Lists.{sorted_by}
 use Rattle.semantics.specs.Values.{Datum, value_order}
 use Rattle.semantics.specs.declared.function.ColumnFunction.{ColumnFunction}
 use Rattle.semantics.specs.declared.function.ColumnFunction.TheVariants as function

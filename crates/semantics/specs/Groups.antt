@@ -7,7 +7,7 @@ use Rattle.std.specs.List.{enumerate_from, flat_map}
 use Rattle.std.specs.Ordering.{eq_by_cmp}
 use Rattle.std.specs.Prelude.{ℕ, List, slice_index_or, Bool, [], ◌∷◌, map, filter}
 use Rattle.std.specs.declared.cmp.Ordering.{Ordering}
-use Rattle.semantics.specs.Names.{distinct}
+use Rattle.semantics.specs.Lists.{distinct}
 use Rattle.semantics.specs.Values.{Datum, null, value_order}
 
 -- The values of a record, one for each column.

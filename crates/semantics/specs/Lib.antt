@@ -3,6 +3,7 @@ pub mod Values
 pub mod Words
 pub mod Columns
 pub mod Limits
+pub mod Lists
 pub mod Lines
 pub mod Records
 pub mod Syntax

@@ -1,8 +1,7 @@
--- What names stand for under a schema (ISO/IEC 9075-2, <column reference>), and a list without
--- repeats: which elements stay in it, `kept_law` of query_resolve says.
+-- What names stand for under a schema (ISO/IEC 9075-2, <column reference>).
 use Rattle.std.specs.List.{filter_map, flat_map}
 use Rattle.std.specs.Option.{option_map, option_and_then}
-use Rattle.std.specs.Prelude.{ℕ, Bool, not, Option, List, [], ◌∷◌, ◌++◌, filter, position, slice_get, Some, None}
+use Rattle.std.specs.Prelude.{ℕ, Option, List, ◌++◌, [], position, slice_get, Some, None}
 use Rattle.std.specs.Str.{bytes_eq}
 use Rattle.semantics.specs.Columns.{Field, names_of}
 use Rattle.semantics.specs.Syntax.{GroupingElement, GroupingElements, set, rollup, cube, sets, no_groups, group, SetFunction, Predicate, over_all, over_filtered}
@@ -27,11 +26,6 @@ kind_at fields place = option_map (λ f. f.kind) (slice_get fields place)
 -- The type of the column of a name.
 abbrev pub column_kind : List Field → List ℕ → Option Kind
 column_kind fields name = option_and_then (kind_at fields) (place_of fields name)
-
--- The elements of a list without repeats, each where it first stands.
-abbrev pub distinct : {A : Type 0} → (A → A → Bool) → List A → List A
-distinct same [] = []
-distinct same (x ∷ xs) = x ∷ filter (λ y. not (same x y)) (distinct same xs)
 
 abbrev mutual
   -- The names in an element of GROUP BY, from left to right.

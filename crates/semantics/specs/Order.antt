@@ -2,12 +2,13 @@
 -- has the same rows and ascends (`order_law` of report_rows), in whatever order the rows were found
 -- (`arranged_law`).
 use Rattle.std.specs.Cmp.Lexicographic.{slice_cmp}
-use Rattle.std.specs.Ordering.{is_gt, nat_cmp, ordering_reverse, ordering_then}
+use Rattle.std.specs.Ordering.{nat_cmp, ordering_reverse, ordering_then}
 use Rattle.std.specs.Prelude.{Bool, List, [], ◌∷◌, map, if◌then◌else◌}
 use Rattle.std.specs.declared.cmp.Ordering.{Ordering}
 use Rattle.std.specs.declared.cmp.Ordering.TheVariants.{Less, Equal, Greater}
 use Rattle.semantics.specs.Aggregates.{CellValue}
 use Rattle.semantics.specs.Columns.{Field}
+use Rattle.semantics.specs.Lists.{sorted_by}
 use Rattle.semantics.specs.ResultRows.{set_of, ResultRow}
 use Rattle.semantics.specs.Rows.{value_in_row, rows_having_true, row_values, value_in}
 use Rattle.semantics.specs.Sets.{grouping_places}
@@ -58,19 +59,6 @@ row_order fields t x y =
     ordering_then (compare_by_keys fields t t.keys x y)
     (ordering_then (nat_cmp x.0 y.0)
     (slice_cmp value_order (grouping_values fields t x) (grouping_values fields t y)))
-
--- ---- a list in order
-
--- The list with x in it, before the first element that is not before x.
-abbrev pub inserted_by : {X : Type 0} → (X → X → Ordering) → X → List X → List X
-inserted_by order x [] = x ∷ []
-inserted_by order x (y ∷ ys) = if is_gt (order x y) then y ∷ inserted_by order x ys else x ∷ y ∷ ys
-
--- The list in order. It does not matter how it is sorted: `order_law` of report_rows says that no
--- other list has the same rows and ascends.
-abbrev pub sorted_by : {X : Type 0} → (X → X → Ordering) → List X → List X
-sorted_by order [] = []
-sorted_by order (x ∷ xs) = inserted_by order x (sorted_by order xs)
 
 -- The rows of a report in their order: those for which HAVING is True.
 abbrev pub sorted_rows : List Field → Query → List ResultRow → List ResultRow

@@ -44,21 +44,21 @@ text_of values = flat_map line_of values
 
 -- ---- groups as values
 
--- A count, as a list of one value.
-abbrev pub count_values : ℕ → List Datum
-count_values n = whole (pos n) ∷ []
+-- A count, as a value.
+abbrev pub number : ℕ → Datum
+number n = whole (pos n)
 
 -- Of different values their number comes first.
 abbrev pub state_values : FunctionState → List Datum
 state_values rows = []
-state_values (counted n) = count_values n
-state_values (summed s n) = whole s ∷ count_values n
+state_values (counted n) = number n ∷ []
+state_values (summed s n) = whole s ∷ number n ∷ []
 state_values (extreme d) = d ∷ []
-state_values (collected ds) = whole (pos (length ds)) ∷ ds
+state_values (collected ds) = number (length ds) ∷ ds
 
 -- A group is its key, the number of its members and the states.
 abbrev pub group_values : EntryForm → List Datum
-group_values g = g.key ++ whole (pos g.members) ∷ flat_map state_values g.states
+group_values g = g.key ++ number g.members ∷ flat_map state_values g.states
 
 -- Groups, one after the other.
 abbrev pub groups_values : List EntryForm → List Datum
@@ -107,10 +107,6 @@ contents_over fields q input = record {
       entries_over (grouping_places fields q) (aggregate_functions fields q)
       (kept_records fields q (valid_records fields input));
 }
-
--- A count, as a value.
-abbrev pub number : ℕ → Datum
-number n = whole (pos n)
 
 -- Of a refused line its number and what is wrong with it.
 abbrev pub refused_line_values : List Field → ℕ × LineFault → List Datum

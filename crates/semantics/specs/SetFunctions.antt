@@ -6,7 +6,8 @@ use Rattle.std.specs.Option.{option_and_then, option_map_or}
 use Rattle.std.specs.Prelude.{ℕ, Option, List, [], ◌∷◌, ◌++◌, position}
 use Rattle.semantics.specs.Columns.{Field}
 use Rattle.semantics.specs.Inside.Same.{same_planned}
-use Rattle.semantics.specs.Names.{distinct, PlannedFunction, planned_function}
+use Rattle.semantics.specs.Names.{PlannedFunction, planned_function}
+use Rattle.semantics.specs.Lists.{distinct}
 use Rattle.semantics.specs.Syntax.{Expression, SetFunction, Operand, Query, name, grouping, function, expression, literal, operands_of_atoms}
 
 -- The set function that an expression is, if it is one. What stands in its FILTER is no part of

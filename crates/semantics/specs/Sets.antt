@@ -4,7 +4,8 @@
 use Rattle.std.specs.List.{flat_map, list_all, list_any}
 use Rattle.std.specs.Prelude.{ℕ, ◌==◌, Bool, ◌&&◌, List, [], ◌∷◌, ◌++◌, map, filter, if◌then◌else◌}
 use Rattle.semantics.specs.Columns.{Field}
-use Rattle.semantics.specs.Names.{distinct, group_names, places_of}
+use Rattle.semantics.specs.Names.{group_names, places_of}
+use Rattle.semantics.specs.Lists.{distinct}
 use Rattle.semantics.specs.Syntax.{GroupingElement, GroupingElements, Query, set, rollup, cube, sets, no_groups, group}
 
 -- ROLLUP stands for the sets of its first n units, of its first n-1, and so on to the empty set.

@@ -2,7 +2,7 @@
 -- `b` and `c`.
 use Rattle.std.proofs.Common.{◌≡◌, ℕ, List, [], ◌∷◌, refl, codes}
 use Rattle.lines.specs.declared.pieces.Piece.{Piece}
-use Rattle.semantics.specs.Order.{sorted_by}
+use Rattle.semantics.specs.Lists.{sorted_by}
 use Rattle.semantics.specs.declared.line_fault.LineFault.{LineFault}
 use Rattle.semantics.specs.declared.line_fault.LineFault.TheVariants.{NoJson, NoObject}
 use Rattle.query_plan.specs.Planned.{PlannedQuery}

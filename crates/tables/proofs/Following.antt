@@ -13,7 +13,7 @@ use Rattle.semantics.specs.Lines.{line_feed, lines, without_empty_last}
 use Rattle.lines.specs.Pieces.{AreWholeLines}
 use Rattle.lines.proofs.Fronts.{valid-whole_lines, lines-whole_lines, refused-whole_lines}
 use Rattle.group_tables.specs.Bags.{SameBag}
-use Rattle.semantics.specs.Order.{sorted_by}
+use Rattle.semantics.specs.Lists.{sorted_by}
 use Rattle.tables.specs.Inside.Notes.{AreLinesBehind, AreLinesOf}
 use Rattle.tables.specs.Notes.{IsWellNumbered, Noted, line_count, note_of, note_order, refused_lines_from}
 use Rattle.tables.specs.Partials.{note_of_one, notes_of_one, one_piece, whole_piece}

@@ -14,7 +14,7 @@ use Rattle.semantics.specs.Records.{refused_lines, decode_line}
 use Rattle.semantics.specs.Lines.{lines}
 use Rattle.group_tables.specs.Bags.{SameBag}
 use Rattle.group_tables.proofs.Bags.{bag-map, sum_by-flat_map}
-use Rattle.semantics.specs.Order.{sorted_by}
+use Rattle.semantics.specs.Lists.{sorted_by}
 use Rattle.tables.specs.Inside.Notes.{AreLinesOf}
 use Rattle.tables.specs.Notes.{Noted, note_of, note_order, refused_lines_from}
 use Rattle.tables.specs.Pieces.{AreInOrder, AreNumbered, HaveOwnIndexes, IndexedPiece, all_lines, pieces_before, refused_lines_numbered}

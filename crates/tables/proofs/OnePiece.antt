@@ -6,7 +6,7 @@ use Rattle.semantics.specs.Conditions.{kept_records}
 use Rattle.semantics.specs.ResultRows.{aggregate_functions}
 use Rattle.semantics.specs.Groups.{Record}
 use Rattle.semantics.specs.Lines.{lines}
-use Rattle.semantics.specs.Order.{sorted_by}
+use Rattle.semantics.specs.Lists.{sorted_by}
 use Rattle.semantics.specs.Records.{refused_lines}
 use Rattle.semantics.specs.Sets.{grouping_places}
 use Rattle.semantics.specs.declared.line_fault.LineFault.{LineFault}

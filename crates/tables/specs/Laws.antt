@@ -18,7 +18,7 @@ use Rattle.semantics.specs.Conditions.{is_kept, kept_records}
 use Rattle.semantics.specs.ResultRows.{aggregate_functions}
 use Rattle.semantics.specs.Groups.{Record}
 use Rattle.semantics.specs.Lines.{lines}
-use Rattle.semantics.specs.Order.{sorted_by}
+use Rattle.semantics.specs.Lists.{sorted_by}
 use Rattle.semantics.specs.Records.{line_results, decode_line, refused_lines, valid_records}
 use Rattle.semantics.specs.Sets.{grouping_places, sets_of}
 use Rattle.semantics.specs.Values.{Datum}

@@ -9,7 +9,7 @@ use Rattle.semantics.specs.declared.line_fault.LineFault.{LineFault}
 use Rattle.semantics.specs.Conditions.{kept_records}
 use Rattle.semantics.specs.ResultRows.{aggregate_functions, rows_before_having}
 use Rattle.semantics.specs.Groups.{Record}
-use Rattle.semantics.specs.Order.{sorted_by}
+use Rattle.semantics.specs.Lists.{sorted_by}
 use Rattle.semantics.specs.Records.{refused_lines, valid_records}
 use Rattle.semantics.specs.Sets.{grouping_places, sets_of}
 use Rattle.query_plan.specs.Planned.{PlannedQuery}

@@ -71,7 +71,7 @@ impl Model for Partial {
     ghost use Rattle.query_resolve.specs.contracts.function.FilteredFunction as filtered_function;
     ghost use Rattle.query_resolve.specs.Resolution.{contents};
     ghost use Rattle.group_tables.specs.Table.{coded_contents};
-    ghost use Rattle.semantics.specs.Order.{sorted_by};
+    ghost use Rattle.semantics.specs.Lists.{sorted_by};
     ghost use Rattle.tables.specs.Notes.{note_order, notes_in};
     ghost use Rattle.tables.specs.States.{PartialState};
 

@@ -4,7 +4,8 @@ use Rattle.std.specs.Global.{Vec}
 use Rattle.std.specs.Str.{bytes_eq}
 use Rattle.values.specs.Schema.{fields_of}
 use Rattle.query_ast.specs.Syntax.{element_form}
-use Rattle.semantics.specs.Names.{distinct, places_of}
+use Rattle.semantics.specs.Names.{places_of}
+use Rattle.semantics.specs.Lists.{distinct}
 use Rattle.query_resolve.specs.Resolution.{contents}
 use Rattle.semantics.specs.Sets.{expansion, ordered_set, same_columns}
 use Rattle.query_resolve.proofs.DistinctSets.{kept_sets}

@@ -1,7 +1,7 @@
 use Rattle.std.proofs.Common.{◌≡◌, ◌∙◌, ◌==◌, ◌++◌, ◌∷◌, [], ℕ, List, Bool, true, false, take, get_or, sym, ap}
 use Rattle.std.specs.Global.{Vec}
 use Rattle.std.specs.List.{list_any}
-use Rattle.semantics.specs.Names.{distinct}
+use Rattle.semantics.specs.Lists.{distinct}
 use Rattle.query_resolve.proofs.Distinct.{distinct_known, distinct_new, same_place, same_read}
 use Rattle.query_resolve.proofs.grouping_columns.distinct_places.Goals as goal
 use Rattle.query_resolve.proofs.grouping_columns.distinct_places.Goals.{then-not-contains+in_ok-push, else-not-contains}

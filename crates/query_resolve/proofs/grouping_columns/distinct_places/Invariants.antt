@@ -1,6 +1,6 @@
 use Rattle.std.proofs.Common.{◌≡◌, take}
 use Rattle.std.specs.Prelude.{◌==◌}
-use Rattle.semantics.specs.Names.{distinct}
+use Rattle.semantics.specs.Lists.{distinct}
 use Rattle.query_resolve.proofs.grouping_columns.distinct_places.Given as goal
 
 abbrev pub invariant-loop-place : goal.invariant-loop-place

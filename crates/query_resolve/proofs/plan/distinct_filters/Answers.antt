@@ -7,7 +7,7 @@ use Rattle.query_ast.specs.declared.expression.Predicate.{Predicate}
 use Rattle.query_ast.specs.Syntax.{predicate_form}
 use Rattle.semantics.specs.Inside.Same.{same_predicate}
 use Rattle.query_resolve.specs.Planning.{filter_forms}
-use Rattle.semantics.specs.Names.{distinct}
+use Rattle.semantics.specs.Lists.{distinct}
 use Rattle.query_resolve.proofs.Distinct.{distinct_known, distinct_new}
 use Rattle.query_resolve.proofs.SameTrees.{predicates_are_same}
 use Rattle.query_resolve.proofs.plan.distinct_filters.Goals as goal

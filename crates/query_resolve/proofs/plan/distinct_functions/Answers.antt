@@ -5,7 +5,7 @@ use Rattle.std.proofs.lemmas.List.{get_or-map, length-map, map-append}
 use Rattle.query_resolve.specs.declared.plan.Planned.{Planned}
 use Rattle.semantics.specs.Inside.Same.{same_planned}
 use Rattle.query_resolve.specs.Planning.{planned_form, planned_forms}
-use Rattle.semantics.specs.Names.{distinct}
+use Rattle.semantics.specs.Lists.{distinct}
 use Rattle.query_resolve.proofs.Distinct.{distinct_known, distinct_new}
 use Rattle.query_resolve.proofs.SameTrees.{planned_are_same}
 use Rattle.query_resolve.proofs.plan.distinct_functions.Goals as goal

@@ -1,5 +1,5 @@
 use Rattle.std.proofs.Common.{◌≡◌, take}
-use Rattle.semantics.specs.Names.{distinct}
+use Rattle.semantics.specs.Lists.{distinct}
 use Rattle.semantics.specs.Inside.Same.{same_planned}
 use Rattle.query_resolve.specs.Planning.{planned_forms}
 use Rattle.query_resolve.proofs.plan.distinct_functions.Given as goal

@@ -3,7 +3,8 @@ use Rattle.std.specs.List.{filter_map}
 use Rattle.values.specs.Schema.{fields_of}
 use Rattle.query_ast.specs.Syntax.{tree_form}
 use Rattle.semantics.specs.Inside.Same.{same_planned}
-use Rattle.semantics.specs.Names.{distinct, planned_function}
+use Rattle.semantics.specs.Names.{planned_function}
+use Rattle.semantics.specs.Lists.{distinct}
 use Rattle.semantics.specs.Syntax.{SetFunction}
 use Rattle.query_resolve.specs.Planning.{planned_forms}
 use Rattle.query_resolve.proofs.AtomFunctions.{collected}

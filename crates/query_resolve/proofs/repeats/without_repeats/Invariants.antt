@@ -1,6 +1,6 @@
 use Rattle.std.proofs.Common.{◌≡◌, take}
 use Rattle.std.specs.Str.{bytes_eq}
-use Rattle.semantics.specs.Names.{distinct}
+use Rattle.semantics.specs.Lists.{distinct}
 use Rattle.query_resolve.specs.Resolution.{contents}
 use Rattle.query_resolve.proofs.repeats.without_repeats.Given as goal
 

@@ -6,7 +6,8 @@ use Rattle.values.specs.Schema.{fields_of}
 use Rattle.query_ast.specs.declared.group.GroupingElement.{GroupingElement}
 use Rattle.query_ast.specs.Syntax.{element_form, tree_form}
 use Rattle.query_resolve.specs.declared.function.FilteredFunction.{FilteredFunction}
-use Rattle.semantics.specs.Names.{distinct, group_names, places_of}
+use Rattle.semantics.specs.Names.{group_names, places_of}
+use Rattle.semantics.specs.Lists.{distinct}
 use Rattle.semantics.specs.Sets.{expansion, grouping_places, ordered_set, same_columns, sets_of}
 use Rattle.query_resolve.specs.Functions.{indexed_functions}
 use Rattle.query_resolve.specs.Resolution.{contents, Resolution}

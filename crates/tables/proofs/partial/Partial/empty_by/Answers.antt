@@ -1,5 +1,5 @@
 use Rattle.std.proofs.Common.{List, [], ap, map, refl, sym, subst, arith}
-use Rattle.semantics.specs.Order.{sorted_by}
+use Rattle.semantics.specs.Lists.{sorted_by}
 use Rattle.query_resolve.specs.declared.function.FilteredFunction.{FilteredFunction}
 use Rattle.group_tables.specs.Table.{IsCounted}
 use Rattle.tables.specs.Notes.{note_in, note_order}

@@ -2,7 +2,7 @@ use Rattle.std.proofs.Common.{◌≡◌, ◌+◌, ◌≤◌, [], ◌∷◌, ◌+
 use Rattle.std.proofs.Math.Logic.{∥∥₁_elim, ∥∥₁_map}
 use Rattle.std.proofs.Props.{props}
 use Rattle.semantics.specs.Lines.{lines}
-use Rattle.semantics.specs.Order.{sorted_by}
+use Rattle.semantics.specs.Lists.{sorted_by}
 use Rattle.semantics.specs.Records.{refused_lines}
 use Rattle.group_tables.specs.Table.{IsCounted}
 use Rattle.query_resolve.specs.declared.function.FilteredFunction.{FilteredFunction}

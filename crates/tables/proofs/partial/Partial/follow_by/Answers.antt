@@ -1,5 +1,5 @@
 use Rattle.std.proofs.Common.{◌≡◌, ◌+◌, ◌<◌, ◌≤◌, ◌^◌, [], ◌∷◌, ◌++◌, List, All, map, refl, sym, ap, subst, ◌∙◌, arith}
-use Rattle.semantics.specs.Order.{sorted_by}
+use Rattle.semantics.specs.Lists.{sorted_by}
 use Rattle.group_tables.specs.Table.{IsCounted, both_tables}
 use Rattle.tables.specs.Notes.{note_in, note_order, notes_in}
 use Rattle.tables.specs.Partials.{HasOwnIndexes, concatenation, note_of_one}

@@ -1,5 +1,5 @@
 use Rattle.std.proofs.Common.{◌≤◌, All, refl, sym, ap, subst, ◌∙◌, arith}
-use Rattle.semantics.specs.Order.{sorted_by}
+use Rattle.semantics.specs.Lists.{sorted_by}
 use Rattle.tables.specs.Notes.{note_order, notes_in}
 use Rattle.tables.specs.Partials.{HasOwnIndexes, as_one, notes_of_one}
 use Rattle.tables.specs.States.{PartialState}
